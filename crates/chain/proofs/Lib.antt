@@ -1,0 +1,4 @@
+pub mod Chains
+pub mod Edits
+pub mod Cells
+pub mod Upkeep

@@ -1,0 +1,12 @@
+pub mod Lists
+pub mod Satisfaction
+pub mod Decide
+pub mod Times
+pub mod Leaning
+pub mod Tables
+pub mod Greatest
+pub mod Strata
+pub mod Locality
+pub mod Refinement
+pub mod Cycle
+pub mod Cases

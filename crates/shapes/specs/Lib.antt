@@ -1,0 +1,11 @@
+pub mod Expr
+pub mod References
+pub mod Lawful
+pub mod Lists
+pub mod Meaning
+pub mod Typing
+pub mod Tables
+pub mod Leaning
+pub mod Refining
+pub mod Claims
+pub mod Cases

@@ -1,0 +1,11 @@
+// Triples, and what a triple store means.
+mod code;
+mod fault;
+mod store;
+
+pub use crate::fault::StoreFault;
+pub use crate::fault::StoreFaultDisplay;
+pub use store::MAX_FAN;
+pub use store::MAX_NODES;
+pub use store::Store;
+pub use store::Triple;
