@@ -1,0 +1,183 @@
+#!/usr/bin/env python3
+"""An independent reading of the script language, over sets of triples: prints what the program must print.
+
+    tools/reference.py < SCRIPT
+
+It shares nothing with the program but docs/SCRIPT.md. The expected output that the gate compares with is its output.
+"""
+import sys
+
+COMMANDS = "a command: store, term, test, put, take, fan, arc, arcs, total, literal or holds"
+EXPECTED = {
+    "kind": "a kind of store: chain",
+    "node": "a node from 0 to 65535",
+    "count": "a number of nodes from 0 to 65535",
+    "property": "a property from 0 to 255",
+    "place": "a place from 0 to 255",
+    "test number": "a test number from 0 to 65535",
+    "term": "a term: iri, blank, text or whole VALUE",
+    "test": "a test: iri, blank, literal, text, whole LO HI or node FIRST LAST",
+    "value": "a whole number from -2147483648 to 2147483647",
+    "end": "the end of the line",
+    "store": "a line that begins with store first",
+    "one store": "one store only",
+    "call": "a call, since the house is described before the first call",
+}
+SENTENCES = {
+    7: "the subject is not a node of the store",
+    8: "the object is not a node of the store",
+    10: "the triple is present",
+    11: "the subject has 12 arcs",
+    12: "the store is full",
+    13: "the triple is absent",
+}
+ARGUMENTS = {
+    "put": ["node", "property", "node"],
+    "take": ["node", "property", "node"],
+    "fan": ["node"],
+    "arc": ["node", "place"],
+    "arcs": ["node"],
+    "total": [],
+    "literal": ["node"],
+    "holds": ["node", "test number"],
+}
+RANGES = {"node": (0, 65535), "count": (0, 65535), "property": (0, 255), "place": (0, 255),
+          "test number": (0, 65535), "value": (-2**31, 2**31 - 1)}
+
+
+class Unreadable(Exception):
+    pass
+
+
+def number(words, what):
+    low, high = RANGES[what]
+    try:
+        value = int(words.pop(0))
+    except (IndexError, ValueError):
+        raise Unreadable(EXPECTED[what])
+    if not low <= value <= high:
+        raise Unreadable(EXPECTED[what])
+    return value
+
+
+def choice(words, what, forms):
+    form = words.pop(0) if words else None
+    if form not in forms:
+        raise Unreadable(EXPECTED[what])
+    return (form, *[number(words, argument) for argument in forms[form]])
+
+
+class House:
+    CAPACITY = 512
+
+    def __init__(self):
+        self.terms, self.tests, self.nodes = [], [], None
+        self.triples, self.called = set(), False
+
+    def read(self, text):
+        words = text.split()
+        name = words.pop(0)
+        if name == "store":
+            parts = choice(words, "kind", {"chain": ["count"]})
+        elif name == "term":
+            parts = choice(words, "term", {"iri": [], "blank": [], "text": [], "whole": ["value"]})
+        elif name == "test":
+            parts = choice(words, "test", {"iri": [], "blank": [], "literal": [], "text": [],
+                                           "whole": ["value", "value"], "node": ["node", "node"]})
+        elif name in ARGUMENTS:
+            parts = tuple(number(words, argument) for argument in ARGUMENTS[name])
+        else:
+            raise Unreadable(COMMANDS)
+        if words:
+            raise Unreadable(EXPECTED["end"])
+        return name, parts
+
+    def perform(self, name, parts):
+        if name in ARGUMENTS:
+            if self.nodes is None:
+                raise Unreadable(EXPECTED["store"])
+            self.called = True
+            return getattr(self, name)(*parts)
+        if self.called:
+            raise Unreadable(EXPECTED["call"])
+        if name == "store":
+            if self.nodes is not None:
+                raise Unreadable(EXPECTED["one store"])
+            self.nodes = min(parts[1], 256)
+            return f"{self.nodes} nodes"
+        table = self.terms if name == "term" else self.tests
+        table.append(parts)
+        return f"{'node' if name == 'term' else 'test'} {len(table) - 1}"
+
+    def refused(self, number):
+        return f"refused with {number} by the store: {SENTENCES[number]}"
+
+    def put(self, s, p, o):
+        fan = len([t for t in self.triples if t[0] == s])
+        for fails, number in ((s >= self.nodes, 7), (o >= self.nodes, 8), ((s, p, o) in self.triples, 10),
+                              (fan == 12, 11), (len(self.triples) == self.CAPACITY, 12)):
+            if fails:
+                return self.refused(number)
+        self.triples.add((s, p, o))
+        return "accepted"
+
+    def take(self, s, p, o):
+        for fails, number in ((s >= self.nodes, 7), (o >= self.nodes, 8), ((s, p, o) not in self.triples, 13)):
+            if fails:
+                return self.refused(number)
+        self.triples.remove((s, p, o))
+        return "accepted"
+
+    def fan(self, n):
+        return str(len([t for t in self.triples if t[0] == n]))
+
+    def arc(self, n, place):
+        # which arc stands at a place is the store's choice: scripts ask only where there is one arc or none
+        arcs = [t for t in self.triples if t[0] == n]
+        if place >= len(arcs):
+            return "no arc"
+        assert len(arcs) == 1, "the order of a list is free"
+        return f"({arcs[0][1]}, {arcs[0][2]})"
+
+    def arcs(self, n):
+        arcs = sorted((p, o) for s, p, o in self.triples if s == n)
+        return " ".join(f"({p}, {o})" for p, o in arcs) or "none"
+
+    def total(self):
+        return f"{len(self.triples)} of {self.CAPACITY}"
+
+    def literal(self, n):
+        return "yes" if n < len(self.terms) and self.terms[n][0] in ("text", "whole") else "no"
+
+    def holds(self, n, t):
+        if n >= len(self.terms) or t >= len(self.tests):
+            return "no"
+        term, test = self.terms[n], self.tests[t]
+        if test[0] == "node":
+            yes = test[1] <= n <= test[2]
+        elif test[0] == "whole":
+            yes = term[0] == "whole" and test[1] <= term[1] <= test[2]
+        elif test[0] == "literal":
+            yes = term[0] in ("text", "whole")
+        else:
+            yes = term[0] == test[0]
+        return "yes" if yes else "no"
+
+
+def main():
+    house = House()
+    for index, line in enumerate(sys.stdin.read().splitlines(), 1):
+        text = line.split("#")[0].strip()
+        if not text:
+            continue
+        try:
+            print(f"{text}: {house.perform(*house.read(text))}")
+        except Unreadable as expected:
+            print(f"line {index}: {text}: expected {expected}; nothing was done")
+    nodes = house.nodes or 0
+    print(f"store: {nodes} nodes, {len(house.triples)} of {house.CAPACITY} triples")
+    for n in range(nodes):
+        print(f"node {n}: {house.arcs(n)}")
+
+
+main()
