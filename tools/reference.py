@@ -7,7 +7,8 @@ It shares nothing with the program but docs/SCRIPT.md. The expected output that 
 """
 import sys
 
-COMMANDS = "a command: store, term, test, put, take, fan, arc, arcs, total, literal or holds"
+COMMANDS = ("a command: store, term, test, draft, set, triple, shape, label, accept, strata, "
+            "put, take, fan, arc, arcs, total, literal or holds")
 EXPECTED = {
     "kind": "a kind of store: chain",
     "node": "a node from 0 to 65535",
@@ -18,6 +19,13 @@ EXPECTED = {
     "term": "a term: iri, blank, text or whole VALUE",
     "test": "a test: iri, blank, literal, text, whole LO HI or node FIRST LAST",
     "value": "a whole number from -2147483648 to 2147483647",
+    "row": "a row from 0 to 255",
+    "set": "a set: properties from 0 to 255, any, or any but properties",
+    "label": "a label from 0 to 255",
+    "triple": "a triple row: empty, arc SET LABEL, each ROW ROW, some ROW ROW or times ROW LEAST MOST",
+    "shape": "a shape row: value TEST, hood ROW, and ROW ROW, or ROW ROW or not ROW",
+    "least": "a least from 0 to 255",
+    "most": "a most from 0 to 255, or * for none",
     "end": "the end of the line",
     "store": "a line that begins with store first",
     "one store": "one store only",
@@ -41,7 +49,11 @@ ARGUMENTS = {
     "literal": ["node"],
     "holds": ["node", "test number"],
 }
-RANGES = {"node": (0, 65535), "count": (0, 65535), "property": (0, 255), "place": (0, 255),
+DRAFT = ("draft", "set", "triple", "shape", "label", "accept", "strata")
+TRIPLE_ROWS = {"empty": [], "arc": ["row", "label"], "each": ["row", "row"], "some": ["row", "row"],
+               "times": ["row", "least", "most"]}
+SHAPE_ROWS = {"value": ["test number"], "hood": ["row"], "and": ["row", "row"], "or": ["row", "row"], "not": ["row"]}
+RANGES = {"row": (0, 255), "label": (0, 255), "least": (0, 255), "most": (0, 255), "node": (0, 65535), "count": (0, 65535), "property": (0, 255), "place": (0, 255),
           "test number": (0, 65535), "value": (-2**31, 2**31 - 1)}
 
 
@@ -50,6 +62,9 @@ class Unreadable(Exception):
 
 
 def number(words, what):
+    if what == "most" and words[:1] == ["*"]:
+        words.pop(0)
+        return None
     low, high = RANGES[what]
     try:
         value = int(words.pop(0))
@@ -67,12 +82,85 @@ def choice(words, what, forms):
     return (form, *[number(words, argument) for argument in forms[form]])
 
 
+def read_set(words):
+    properties, turn = set(), set.add
+    if words[:1] == ["any"]:
+        properties, turn, words = set(range(256)), set.discard, words[1:]
+        if words and words.pop(0) != "but":
+            raise Unreadable(EXPECTED["set"])
+    for word in words:
+        if not word.isdigit() or int(word) > 255:
+            raise Unreadable(EXPECTED["set"])
+        turn(properties, int(word))
+    return properties
+
+
+class Draft:
+    """Four tables, what they are refused for, and which label refers to which."""
+
+    def __init__(self):
+        self.labels, self.shapes, self.triples, self.sets = [], [], [], []
+
+    def refusal(self):
+        for rows, limit, words in ((self.labels, 32, "labels"), (self.shapes, 128, "shape rows"),
+                                   (self.triples, 128, "triple rows"), (self.sets, 32, "property sets")):
+            if len(rows) > limit:
+                return 1, f"there are too many {words}: row {limit} is past the last"
+        for label, row in enumerate(self.labels):
+            if row >= len(self.shapes):
+                return 2, f"label {label} is defined by no shape row"
+        for r, (kind, *names) in enumerate(self.shapes):
+            if kind == "hood" and names[0] >= len(self.triples) or kind in ("and", "or", "not") and max(names) >= r:
+                return 3, f"shape row {r} names a row that it may not name"
+        for r, (kind, *names) in enumerate(self.triples):
+            fails = {"empty": lambda: False, "arc": lambda: names[0] >= len(self.sets) or names[1] >= len(self.labels),
+                     "each": lambda: max(names) >= r, "some": lambda: max(names) >= r, "times": lambda: names[0] >= r}
+            if fails[kind]():
+                return 4, f"triple row {r} names a row, a set or a label that it may not name"
+            if kind == "times" and names[2] is not None and names[2] < names[1]:
+                return 5, f"triple row {r} has its most below its least"
+        for label in range(len(self.labels)):
+            for other in sorted(self.references(label)[1]):
+                if label in self.reach(other):
+                    return 6, f"the negated reference from label {label} to label {other} lies on a cycle"
+        return None
+
+    def arcs(self, row):
+        kind, *names = self.triples[row]
+        if kind == "arc":
+            return {names[1]}
+        return set().union(*[self.arcs(name) for name in names[:{"empty": 0, "times": 1}.get(kind, 2)]])
+
+    def below(self, row):
+        """The labels that an expression refers to, and those that stand below a NOT."""
+        kind, *names = self.shapes[row]
+        if kind == "value":
+            return set(), set()
+        if kind == "hood":
+            return self.arcs(names[0]), set()
+        parts = [self.below(name) for name in names]
+        refers = set().union(*[part[0] for part in parts])
+        return refers, refers if kind == "not" else set().union(*[part[1] for part in parts])
+
+    def references(self, label):
+        return self.below(self.labels[label])
+
+    def reach(self, label):
+        seen, work = {label}, [label]
+        while work:
+            for other in self.references(work.pop())[0] - seen:
+                seen.add(other)
+                work.append(other)
+        return seen
+
+
 class House:
     CAPACITY = 512
 
     def __init__(self):
         self.terms, self.tests, self.nodes = [], [], None
         self.triples, self.called = set(), False
+        self.drafted, self.accepted = Draft(), Draft()
 
     def read(self, text):
         words = text.split()
@@ -84,6 +172,16 @@ class House:
         elif name == "test":
             parts = choice(words, "test", {"iri": [], "blank": [], "literal": [], "text": [],
                                            "whole": ["value", "value"], "node": ["node", "node"]})
+        elif name == "set":
+            return name, (read_set(words),)
+        elif name == "triple":
+            parts = (choice(words, "triple", TRIPLE_ROWS),)
+        elif name == "shape":
+            parts = (choice(words, "shape", SHAPE_ROWS),)
+        elif name == "label":
+            parts = (number(words, "row"),)
+        elif name in DRAFT:
+            parts = ()
         elif name in ARGUMENTS:
             parts = tuple(number(words, argument) for argument in ARGUMENTS[name])
         else:
@@ -92,7 +190,31 @@ class House:
             raise Unreadable(EXPECTED["end"])
         return name, parts
 
+    def draft(self, name, parts):
+        tables = {"set": (self.drafted.sets, "set"), "triple": (self.drafted.triples, "triple row"),
+                  "shape": (self.drafted.shapes, "shape row"), "label": (self.drafted.labels, "label")}
+        if name in tables:
+            table, words = tables[name]
+            table.append(parts[0])
+            return f"{words} {len(table) - 1}"
+        if name == "draft":
+            self.drafted = Draft()
+            return "a new draft"
+        if name == "strata":
+            # of the stratifications the library gives this one: how many labels each label reaches, itself included
+            strata = [len(self.accepted.reach(label)) for label in range(len(self.accepted.labels))]
+            return " ".join(map(str, strata)) or "no labels"
+        refusal = self.drafted.refusal()
+        if refusal:
+            return f"refused with {refusal[0]} by the schema: {refusal[1]}"
+        self.accepted = Draft()
+        for table in ("labels", "shapes", "triples", "sets"):
+            setattr(self.accepted, table, list(getattr(self.drafted, table)))
+        return f"accepted, {len(self.accepted.labels)} labels"
+
     def perform(self, name, parts):
+        if name in DRAFT:
+            return self.draft(name, parts)
         if name in ARGUMENTS:
             if self.nodes is None:
                 raise Unreadable(EXPECTED["store"])

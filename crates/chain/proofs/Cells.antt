@@ -1,20 +1,21 @@
 -- Which cells are on which chain when a chain gains its head, or loses it. Assumes nothing.
-use Prim.Native.Nat.{ℕ, zero, suc, _+_, _-_, _<_, _≤_}
+use Prim.Native.Nat.{ℕ, zero, suc, _+_, _-_, _<_}
 use mathlib.Core.Path.{_≡_, refl, sym, ap, subst, _∙_}
 use mathlib.Core.Bool.{Bool, true, false, _&&_, _||_, not}
-use mathlib.Core.Logic.{_⊎_, inl, inr, ⊎-elim, _≢_}
-use mathlib.Core.List.{List, [], _∷_}
+use mathlib.Core.Logic.{_⊎_, inl, inr, ⊎-elim}
+use mathlib.Core.List.{List, _∷_}
 use native.Mathlib.Omega.{arith}
 use native.Mathlib.Numerals.{add-one}
 use lib.Dec.{eqb}
 use lib.ListN.{length, getD, set}
-use lib.Seq.{getD-set-same, getD-set-other, set-getD}
-use Rattle.std.proofs.shelf.Tests.{eq-eqb, eqb-true, ne-eqb, and-parts, and-from, and-left, and-right, or-parts, or-cases, or-right, or-from, not-from-false, not-from-true, cases-bool, cases-eq, cases-lt}
+use lib.Seq.{getD-set-same, getD-set-other}
+use Rattle.std.proofs.shelf.Tests.{eq-eqb, eqb-true, ne-eqb, and-parts, and-from, and-left, and-right, or-parts, or-cases, or-right, or-from, not-from-false, not-from-true, cases-bool, cases-eq}
 use Rattle.triple.specs.Arcs.{Arc, same, has, distinct}
+use Rattle.triple.proofs.Changes.{clash, same-true, same-refl}
 use Rattle.triple.proofs.Totals.{at-each}
 use Rattle.chain.specs.Links.{chain, on, arcs-of, on-chain}
-use Rattle.chain.proofs.Chains.{chain-step, chain-frame, chain-length, on-step, on-frame, on-has, on-first, Agree, set-agrees}
-use Rattle.chain.proofs.Edits.{clash, same-true, same-via, same-refl, distinct-parts, replaced, without}
+use Rattle.chain.proofs.Chains.{chain-frame, on-step, on-frame, on-has, set-agrees}
+use Rattle.chain.proofs.Edits.{distinct-parts, replaced, without}
 
 -- which cell is on the chain of which node
 abbrev pub Placed : Type 0

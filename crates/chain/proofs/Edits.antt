@@ -1,31 +1,14 @@
 -- Lists of arcs when one arc is added in front, or replaced. Assumes nothing.
-use Prim.Native.Nat.{ℕ, zero, suc, _+_, _<_, _≤_}
-use mathlib.Core.Path.{_≡_, refl, sym, ap, subst, _∙_}
+use Prim.Native.Nat.{ℕ, suc, _<_}
+use mathlib.Core.Path.{_≡_, refl, sym, ap, _∙_}
 use mathlib.Core.Bool.{Bool, true, false, _&&_, _||_, not, cond}
 use mathlib.Core.Logic.{_⊎_, ⊎-elim}
 use mathlib.Core.List.{List, [], _∷_}
-use native.Mathlib.Omega.{arith}
 use lib.Dec.{eqb, ltb}
 use lib.ListN.{length}
-use Rattle.std.proofs.shelf.Tests.{eq-eqb, eqb-true, ne-eqb, and-parts, and-from, or-parts, not-true, not-from-false, cases-bool, lt-ltb}
+use Rattle.std.proofs.shelf.Tests.{eq-eqb, eqb-true, and-parts, and-from, or-parts, not-true, not-from-false, cases-bool, lt-ltb}
 use Rattle.triple.specs.Arcs.{Arc, same, has, distinct, inside}
-use Rattle.triple.specs.Stores.{Lists, present, is, Added, Removed}
-use Rattle.triple.proofs.Totals.{at-each}
-
-pub clash : {P : Type 0} → true ≡ false → P
-clash e = let z : _≡_ {A = ℕ} 0 1 = cc in absurd (omega arith)
-
--- equal arcs
-
-pub same-true : (a : Arc) (p o : ℕ) → same a p o ≡ true → a ≡ (p, o)
-same-true a p o e =
-    let parts = and-parts (eqb (a .0) p) (eqb (a .1) o) e in
-    let f : a .0 ≡ p = eqb-true _ _ (parts .0) in
-    let g : a .1 ≡ o = eqb-true _ _ (parts .1) in
-    ap (λ x. (x, a .1)) f ∙ ap (λ y. (p, y)) g
-
-pub same-refl : (a : Arc) → same a (a .0) (a .1) ≡ true
-same-refl a = and-from _ _ (eq-eqb (a .0) (a .0) refl) (eq-eqb (a .1) (a .1) refl)
+use Rattle.triple.proofs.Changes.{clash, same-refl, first-only}
 
 -- a list of arcs with the arc (p, o) replaced by x
 abbrev pub replaced : ℕ → ℕ → Arc → List Arc → List Arc
@@ -57,18 +40,6 @@ moved true true P H d = refl
 moved true false true H d = clash (d refl)
 moved true false false H d = refl
 moved false X P H d = refl
-
-gone : (P H : Bool) → (P ≡ true → H ≡ false) → H ≡ (not P && (P || H))
-gone true H d = d refl
-gone false H d = refl
-
--- an arc that stands first in a list without repeats stands nowhere else
-first-only : (y : Arc) (arcs : List Arc) (p o a b : ℕ) → same y p o ≡ true → has (y .0) (y .1) arcs ≡ false
-    → has a b arcs ≡ (not (same (p, o) a b) && (same y a b || has a b arcs))
-first-only y arcs p o a b e h =
-    let q = same-true y p o e in
-    let other : same y a b ≡ true → has a b arcs ≡ false = λ f. let r = same-true y a b f in subst (λ (z : Arc). has (z .0) (z .1) arcs ≡ false) r h in
-    subst (λ (z : Arc). has a b arcs ≡ (not (same z a b) && (same y a b || has a b arcs))) q (gone (same y a b) (has a b arcs) other)
 
 pub has-replaced : (p o : ℕ) (x : Arc) (arcs : List Arc) (a b : ℕ) → has p o arcs ≡ true → distinct arcs ≡ true
     → has a b (replaced p o x arcs) ≡ (same x a b || (not (same (p, o) a b) && has a b arcs))
@@ -154,31 +125,6 @@ length-without p o (y ∷ arcs) h =
     (λ (e : same y p o ≡ true). rw e refl)
     (λ (e : same y p o ≡ false). rw e (ap suc (sym (length-replaced p o y arcs))))
     (cases-bool (same y p o))
-
--- the lists of all nodes, where only that of s changes
-
-module _ (before after : Lists) (s p o : ℕ) (others : (n : ℕ) → (n ≡ s → ⊥) → after n ≡ before n) where
-  elsewhere : (n a b : ℕ) → (n ≡ s → ⊥) → is n a b s p o ≡ false
-  elsewhere n a b d = rw (ne-eqb n s d) refl
-
-  at-subject : (a b : ℕ) → is s a b s p o ≡ same (p, o) a b
-  at-subject a b = rw (eq-eqb s s refl) refl
-
-  pub added : after s ≡ (p, o) ∷ before s → Added before s p o after
-  added here n a b =
-      at-each (λ m. present after m a b ≡ (is m a b s p o || present before m a b)) s
-      (rw (here, at-subject a b) refl)
-      (λ m d. rw (others m d, elsewhere m a b d) refl) n
-
-  pub removed : after s ≡ without p o (before s) → has p o (before s) ≡ true → distinct (before s) ≡ true → Removed before s p o after
-  removed here h d n a b =
-      at-each (λ m. present after m a b ≡ (not (is m a b s p o) && present before m a b)) s
-      (rw (here, at-subject a b) (has-without p o (before s) a b h d))
-      (λ m e. rw (others m e, elsewhere m a b e) refl) n
-
-  -- what holds of the list of s and of each list before holds of each list after
-  pub each-after : (test : List Arc → Bool) → test (after s) ≡ true → ((n : ℕ) → test (before n) ≡ true) → (n : ℕ) → test (after n) ≡ true
-  each-after test here all = at-each (λ m. test (after m) ≡ true) s here (λ m d. rw (others m d) (all m))
 
 pub distinct-front : (p o : ℕ) (arcs : List Arc) → has p o arcs ≡ false → distinct arcs ≡ true → distinct ((p, o) ∷ arcs) ≡ true
 distinct-front p o arcs h d = and-from _ _ (not-from-false _ h) d

@@ -13,11 +13,12 @@ use Rattle.std.specs.declared.option.Option.the-variants.{Some, None}
 use Rattle.std.proofs.shelf.Tests.{cases-eq, cases-bool}
 use Rattle.triple.specs.Arcs.{has, distinct, inside}
 use Rattle.triple.specs.Stores.{Lists, total, Added, Removed}
+use Rattle.triple.proofs.Changes.{clash, added, removed, each-after}
 use Rattle.triple.proofs.Totals.{at-each, total-more}
 use Rattle.chain.specs.declared.memory.ChainStore.{ChainStore}
 use Rattle.chain.specs.Links.{on, arcs-of, on-chain, shared}
-use Rattle.chain.proofs.Chains.{chain-length, on-first, on-has}
-use Rattle.chain.proofs.Edits.{clash, without, added, removed, each-after, distinct-front, inside-front, distinct-without, inside-without, length-without}
+use Rattle.chain.proofs.Chains.{on-first, on-has}
+use Rattle.chain.proofs.Edits.{without, has-without, distinct-front, inside-front, distinct-without, inside-without, length-without}
 use Rattle.chain.proofs.Cells.{Gains, one-chain, kept, still-off, gains-below, gains-cut, gains-off, loses-cut, put-here, put-others, put-gains, take-here, take-others, take-gains, take-freed}
 
 -- the facts of the struct's ghost fields
@@ -97,7 +98,7 @@ module _ (nodes count : ℕ) (heads fans free next properties objects : List ℕ
         put-gains heads fans next properties objects s fresh p o in-heads in-fans (omega (arith, l, sized .cells .1)) (λ n. sound .unused (511 - count) n top)
 
     put-added : Added arcs s p o put-arcs
-    put-added = added arcs put-arcs s p o put-lists put-list
+    put-added = added arcs put-arcs s p o put-lists (λ a b. rw put-list refl)
 
     put-sound : p < 256 → o < nodes
         → Sound nodes (count + 1) (set heads s fresh) (set fans s (getD fans s 0 + 1)) free (set next fresh (getD heads s 0)) (set properties fresh p) (set objects fresh o)
@@ -154,7 +155,7 @@ module _ (nodes count : ℕ) (heads fans free next properties objects : List ℕ
     take-cells = take-gains heads fans next properties objects s f in-heads in-fans some
 
     take-removed : Removed arcs s p o take-arcs
-    take-removed = removed arcs take-arcs s p o take-lists take-list present (sound .apart s)
+    take-removed = removed arcs take-arcs s p o take-lists (λ a b. rw take-list (has-without p o (arcs s) a b present (sound .apart s)))
 
     one-less : count ≡ suc (total nodes take-arcs)
     one-less = sound .counted ∙ total-more take-arcs arcs s nodes subject (length-without p o (arcs s) present ∙ ap (λ l. suc (length l)) (sym take-list)) (λ n d. sym (take-lists n d))

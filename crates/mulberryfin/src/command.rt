@@ -1,5 +1,8 @@
 // One line of a script, read into what it asks for.
 use crate::expected::Expected;
+use crate::draft_lines::DraftLine;
+use crate::draft_lines::read_draft_line;
+use crate::draft_lines::read_set;
 use std::str::FromStr;
 use std::str::SplitWhitespace;
 use triple::Triple;
@@ -8,10 +11,18 @@ use values::Test;
 
 #[derive(Clone, Copy)]
 pub enum Command {
-    Store(u16),
+    Store(StoreKind),
     Term(TermKind),
     Test(Test),
+    Draft(DraftLine),
     Call(Call),
+}
+
+// Each kind with its number of nodes, and the row store with its number of rows.
+#[derive(Clone, Copy)]
+pub enum StoreKind {
+    Chain(u16),
+    Rows(u16, u16),
 }
 
 #[derive(Clone, Copy)]
@@ -24,10 +35,17 @@ pub enum Call {
     Total,
     Literal(u16),
     Holds(u16, u16),
+    Typed(u16, u8),
+    Untyped,
+    Satisfies(u16, u8),
+    Satisfied,
 }
 
 // The next word as a number.
-fn read_number<N: FromStr>(words: &mut SplitWhitespace, expected: Expected) -> Result<N, Expected>
+pub fn read_number<N: FromStr>(
+    words: &mut SplitWhitespace,
+    expected: Expected,
+) -> Result<N, Expected>
 where
     N::Err: Drop,
 {
@@ -40,7 +58,7 @@ where
     }
 }
 
-fn read_node(words: &mut SplitWhitespace) -> Result<u16, Expected> {
+pub fn read_node(words: &mut SplitWhitespace) -> Result<u16, Expected> {
     read_number(words, Expected::Node)
 }
 
@@ -59,9 +77,13 @@ fn read_triple(words: &mut SplitWhitespace) -> Result<Triple, Expected> {
     })
 }
 
-fn read_store(words: &mut SplitWhitespace) -> Result<u16, Expected> {
+fn read_store(words: &mut SplitWhitespace) -> Result<StoreKind, Expected> {
     match words.next() {
-        Some("chain") => read_number(words, Expected::NodeCount),
+        Some("chain") => Ok(StoreKind::Chain(read_number(words, Expected::NodeCount)?)),
+        Some("rows") => {
+            let nodes = read_number(words, Expected::NodeCount)?;
+            Ok(StoreKind::Rows(nodes, read_number(words, Expected::RowCount)?))
+        }
         _ => Err(Expected::StoreKind),
     }
 }
@@ -98,6 +120,16 @@ fn read_call(name: &str, words: &mut SplitWhitespace) -> Result<Call, Expected> 
         "total" => Ok(Call::Total),
         "literal" => Ok(Call::Literal(read_node(words)?)),
         "holds" => Ok(Call::Holds(read_node(words)?, read_number(words, Expected::TestNumber)?)),
+        _ => read_typing_call(name, words),
+    }
+}
+
+fn read_typing_call(name: &str, words: &mut SplitWhitespace) -> Result<Call, Expected> {
+    match name {
+        "typed" => Ok(Call::Typed(read_node(words)?, read_number(words, Expected::Label)?)),
+        "untyped" => Ok(Call::Untyped),
+        "satisfies" => Ok(Call::Satisfies(read_node(words)?, read_number(words, Expected::Label)?)),
+        "satisfied" => Ok(Call::Satisfied),
         _ => Err(Expected::Command),
     }
 }
@@ -107,6 +139,9 @@ fn read_command(name: &str, words: &mut SplitWhitespace) -> Result<Command, Expe
         "store" => Ok(Command::Store(read_store(words)?)),
         "term" => Ok(Command::Term(read_term(words)?)),
         "test" => Ok(Command::Test(read_test(words)?)),
+        "draft" | "triple" | "shape" | "label" | "accept" | "strata" => Ok(Command::Draft(
+            read_draft_line(name, words)?,
+        )),
         _ => Ok(Command::Call(read_call(name, words)?)),
     }
 }
@@ -117,6 +152,9 @@ pub fn read(line: &str) -> Result<Option<Command>, Expected> {
     let Some(name) = words.next() else {
         return Ok(None);
     };
+    if name == "set" {
+        return Ok(Some(Command::Draft(DraftLine::Set(read_set(words)?))));
+    }
     let command = read_command(name, &mut words)?;
     match words.next() {
         None => Ok(Some(command)),

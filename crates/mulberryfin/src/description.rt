@@ -1,7 +1,9 @@
 // The house that a script describes before its first call.
 use crate::answer::Answer;
 use crate::command::Command;
+use crate::command::StoreKind;
 use crate::expected::Expected;
+use crate::session::Session;
 use crate::trouble::Trouble;
 use crate::trouble::TroubleFromRefused;
 use std::alloc::Global;
@@ -14,7 +16,8 @@ use values::Test;
 pub struct Description {
     pub terms: Vec<Term>,
     pub tests: Vec<Test>,
-    pub nodes: Option<u16>,
+    pub store: Option<StoreKind>,
+    pub session: Session,
 }
 
 impl Description {
@@ -22,25 +25,31 @@ impl Description {
         Description {
             terms: Vec::new(heap),
             tests: Vec::new(heap),
-            nodes: None,
+            store: None,
+            session: Session::new(heap),
         }
     }
 
     // Adds what the command describes; a call comes too early.
     pub fn add(&mut self, command: Command) -> Result<Answer, Trouble> {
         match command {
-            Command::Store(nodes) => self.set_store(nodes),
+            Command::Store(store) => self.set_store(store),
             Command::Term(kind) => self.add_term(kind),
             Command::Test(test) => self.add_test(test),
+            Command::Draft(line) => self.session.drafting.perform(line),
             Command::Call(_) => Err(Trouble::Unreadable(Expected::Store)),
         }
     }
 
-    fn set_store(&mut self, nodes: u16) -> Result<Answer, Trouble> {
-        if self.nodes.is_some() {
+    fn set_store(&mut self, store: StoreKind) -> Result<Answer, Trouble> {
+        if self.store.is_some() {
             return Err(Trouble::Unreadable(Expected::OneStore));
         }
-        self.nodes = Some(nodes);
+        self.store = Some(store);
+        let nodes = match store {
+            StoreKind::Chain(nodes) => nodes,
+            StoreKind::Rows(nodes, _) => nodes,
+        };
         Ok(Answer::Nodes(nodes.min(MAX_NODES)))
     }
 

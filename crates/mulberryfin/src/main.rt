@@ -3,8 +3,11 @@ mod answer;
 mod calls;
 mod command;
 mod description;
+mod drafting;
 mod expected;
+mod draft_lines;
 mod script;
+mod session;
 mod trouble;
 
 use script::run;

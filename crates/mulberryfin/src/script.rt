@@ -4,15 +4,20 @@ use crate::answer::AnswerDisplay;
 use crate::calls::answer;
 use crate::calls::sorted_arcs;
 use crate::command::Command;
+use crate::command::StoreKind;
 use crate::command::read;
 use crate::description::Description;
 use crate::expected::Expected;
 use crate::expected::ExpectedDisplay;
+use crate::session::Session;
 use crate::trouble::Trouble;
 use crate::trouble::TroubleFromAlloc;
 use crate::trouble::TroubleFromExpected;
 use chain::ChainStore;
 use chain::ChainStoreStore;
+use rows::Row;
+use rows::RowStore;
+use rows::RowStoreStore;
 use std::alloc::AllocError;
 use std::error::AnyError;
 use triple::Store;
@@ -55,7 +60,7 @@ fn describe(rt: &LibcRuntime, house: &mut Description, lines: &[&str]) -> Result
         let text = uncommented(line);
         let result = match read(text) {
             Ok(None) => continue,
-            Ok(Some(Command::Call(_))) if house.nodes.is_some() => return Ok(index),
+            Ok(Some(Command::Call(_))) if house.store.is_some() => return Ok(index),
             Ok(Some(command)) => house.add(command),
             Err(expected) => Err(Trouble::Unreadable(expected)),
         };
@@ -65,13 +70,14 @@ fn describe(rt: &LibcRuntime, house: &mut Description, lines: &[&str]) -> Result
 }
 
 fn carry_out<S: Store, V: ValueTest>(
-    rt: &LibcRuntime,
     store: &mut S,
     values: &V,
+    session: &mut Session,
     command: Command,
 ) -> Result<Answer, Trouble> {
     match command {
-        Command::Call(call) => Ok(answer(rt.alloc(), store, values, call)?),
+        Command::Draft(line) => session.drafting.perform(line),
+        Command::Call(call) => Ok(answer(session, store, values, call)?),
         _ => Err(Trouble::Unreadable(Expected::Call)),
     }
 }
@@ -81,6 +87,7 @@ fn run_calls<S: Store, V: ValueTest>(
     rt: &LibcRuntime,
     store: &mut S,
     values: &V,
+    session: &mut Session,
     lines: &[&str],
     first: usize,
 ) -> Result<(), AnyError> {
@@ -88,7 +95,7 @@ fn run_calls<S: Store, V: ValueTest>(
         let text = uncommented(line);
         let result = match read(text) {
             Ok(None) => continue,
-            Ok(Some(command)) => carry_out(rt, store, values, command),
+            Ok(Some(command)) => carry_out(store, values, session, command),
             Err(expected) => Err(Trouble::Unreadable(expected)),
         };
         tell(rt, index, text, result)?;
@@ -109,13 +116,32 @@ fn list<S: Store>(rt: &LibcRuntime, store: &S) -> Result<(), AnyError> {
     Ok(())
 }
 
+fn run_over<S: Store>(
+    rt: &LibcRuntime,
+    store: &mut S,
+    house: &mut Description,
+    lines: &[&str],
+    first: usize,
+) -> Result<(), AnyError> {
+    let values = TermTable::new(house.terms.as_slice(), house.tests.as_slice());
+    run_calls(rt, store, &values, &mut house.session, lines, first)?;
+    list(rt, store)
+}
+
 pub fn run(rt: &LibcRuntime, text: &str) -> Result<(), AnyError> {
     let heap = rt.alloc();
     let lines: Vec<&str> = text.lines().collect(heap)?;
     let mut house = Description::new(heap);
     let first = describe(rt, &mut house, lines.as_slice())?;
-    let mut store = ChainStore::new(house.nodes.unwrap_or(0));
-    let values = TermTable::new(house.terms.as_slice(), house.tests.as_slice());
-    run_calls(rt, &mut store, &values, lines.as_slice(), first)?;
-    list(rt, &store)
+    match house.store.unwrap_or(StoreKind::Chain(0)) {
+        StoreKind::Chain(nodes) => {
+            let mut store = ChainStore::new(nodes);
+            run_over(rt, &mut store, &mut house, lines.as_slice(), first)
+        }
+        StoreKind::Rows(nodes, count) => {
+            let mut rows = vec![in heap; Row::FREE; usize::from(count)]?;
+            let mut store = RowStore::new(rows.as_mut_slice(), nodes);
+            run_over(rt, &mut store, &mut house, lines.as_slice(), first)
+        }
+    }
 }

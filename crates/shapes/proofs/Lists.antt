@@ -1,10 +1,12 @@
 -- Members, splits and permutations of lists.
 use Prim.Native.Nat.{ℕ, zero, suc, _+_, _≤_, _<_}
 use mathlib.Core.Path.{_≡_, refl, sym, ap, subst}
-use mathlib.Core.Logic.{_⊎_, inl, inr, _↔_}
-use mathlib.Core.List.{List, [], _∷_}
+use mathlib.Core.Logic.{_⊎_, inl, inr, ⊎-elim, _↔_}
+use mathlib.Core.List.{List, [], _∷_, _++_}
 use native.Mathlib.Omega.{arith}
 use lib.ListN.{length, getD}
+use Rattle.std.specs.declared.option.Option.the-variants.{Some}
+use Rattle.std.specs.shelf.Maps.{nth}
 use Rattle.shapes.specs.Lists.{Member, first, later, NoRepeats, Permuted, none, keep, swap, then, Split, nil, left, right, Parts}
 
 -- members
@@ -20,6 +22,27 @@ member-at (z ∷ zs) (suc i) d h = later (member-at zs i d (omega arith))
 pub member-place : {A : Type 0} {a : A} {zs : List A} → Member a zs → (d : A) → (i : ℕ) × (i < length zs) × (getD zs i d ≡ a)
 member-place first d = (0, omega arith, refl)
 member-place (later m) d = let h = member-place m d in (suc (h .0), omega (arith, h .1), h .2)
+
+pub nth-member : {A : Type 0} (zs : List A) (i : ℕ) (a : A) → nth zs i ≡ Some a → Member a zs
+nth-member [] i a e = let z : _≡_ {A = ℕ} 0 1 = cc in absurd (omega arith)
+nth-member (z ∷ zs) zero a e = let x : z ≡ a = cc in subst (λ y. Member y (z ∷ zs)) x first
+nth-member (z ∷ zs) (suc i) a e = later (nth-member zs i a e)
+
+-- one more element at the end
+pub member-push : {A : Type 0} {a : A} (xs : List A) (x : A) → Member a xs → Member a (xs ++ (x ∷ []))
+member-push [] x m = elim m [ ]
+member-push (y ∷ xs) x first = first
+member-push (y ∷ xs) x (later m) = later (member-push xs x m)
+
+pub member-last : {A : Type 0} (xs : List A) (x : A) → Member x (xs ++ (x ∷ []))
+member-last [] x = first
+member-last (y ∷ xs) x = later (member-last xs x)
+
+pub member-pushed : {A : Type 0} {a : A} (xs : List A) (x : A) → Member a (xs ++ (x ∷ [])) → Member a xs ⊎ (a ≡ x)
+member-pushed [] x first = inr refl
+member-pushed [] x (later m) = elim m [ ]
+member-pushed (y ∷ xs) x first = inl first
+member-pushed (y ∷ xs) x (later m) = ⊎-elim (λ n. inl (later n)) inr (member-pushed xs x m)
 
 -- splits
 pub split-left-member : {A : Type 0} {a : A} {zs xs ys : List A} → Split zs xs ys → Member a xs → Member a zs

@@ -9,3 +9,4 @@ pub mod Leaning
 pub mod Refining
 pub mod Claims
 pub mod Cases
+pub mod Bytes

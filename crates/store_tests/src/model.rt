@@ -13,7 +13,11 @@ pub struct Model {
 
 impl Model {
     pub fn new(heap: Global, nodes: u16, capacity: usize) -> Model {
-        Model { nodes, capacity, triples: Vec::new(heap) }
+        Model {
+            nodes,
+            capacity,
+            triples: Vec::new(heap),
+        }
     }
 
     pub fn has(&self, triple: Triple) -> bool {

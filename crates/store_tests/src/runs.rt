@@ -48,7 +48,13 @@ fn pick(seed: u32, below: u16) -> u16 {
 }
 
 // Puts and takes of triples whose nodes are below `nodes` + 1, so that some are not in the store.
-pub fn wander<S: Store>(heap: Global, store: &mut S, model: &mut Model, calls: u16, properties: u16) -> Result<(), Fail> {
+pub fn wander<S: Store>(
+    heap: Global,
+    store: &mut S,
+    model: &mut Model,
+    calls: u16,
+    properties: u16,
+) -> Result<(), Fail> {
     let nodes = model.nodes.saturating_add(1);
     let mut seed = 2026u32;
     for _ in 0..calls {
@@ -58,7 +64,11 @@ pub fn wander<S: Store>(heap: Global, store: &mut S, model: &mut Model, calls: u
         seed = next(seed);
         let object = pick(seed, nodes);
         seed = next(seed);
-        let triple = Triple { subject, property, object };
+        let triple = Triple {
+            subject,
+            property,
+            object,
+        };
         if seed >= 0x6000_0000 {
             check_eq(number(store.put(triple)), model.put(triple)?)?;
         } else {

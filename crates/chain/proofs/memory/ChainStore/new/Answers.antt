@@ -1,6 +1,6 @@
-use Prim.Native.Nat.{ℕ, zero, suc, _<_}
+use Prim.Native.Nat.{ℕ, _<_}
 use mathlib.Core.Bool.{false}
-use mathlib.Core.List.{List, []}
+use mathlib.Core.List.{[]}
 use mathlib.Core.Logic.{_≢_}
 use mathlib.Core.Path.{_≡_, refl, sym, _∙_}
 use native.Mathlib.Omega.{arith}
@@ -9,7 +9,7 @@ use borrow.Author.Needs.{needs}
 use lib.ListN.{length, getD, replicate}
 use lib.Seq.{getD-set-same, getD-set-other}
 use Rattle.std.proofs.shelf.Lists.{length-set}
-use Rattle.triple.specs.Stores.{Lists, total}
+use Rattle.triple.proofs.Changes.{total-none}
 use Rattle.chain.specs.Links.{arcs-of, on-chain}
 use Rattle.chain.proofs.Chains.{zero-at, empty-at}
 use Rattle.chain.proofs.memory.ChainStore.new.Needs as need
@@ -21,11 +21,6 @@ loop-i-again c = (
       (λ k h. let ne : k ≢ c .loop-i .i = omega arith in rw getD-set-other (c .loop-i .inv .1 k h))
       (let lt : c .loop-i .i < length (c .loop-i .free) = omega arith in rw getD-set-same),
 )
-
--- with no arc at any node the total is 0
-total-none : (arcs : Lists) (n : ℕ) → ((m : ℕ) → arcs m ≡ []) → total n arcs ≡ 0
-total-none arcs zero none = refl
-total-none arcs (suc n) none = rw (none n, total-none arcs n none) refl
 
 bare : (n : ℕ) → arcs-of (replicate 256 0) (replicate 256 0) (replicate 512 0) (replicate 512 0) (replicate 512 0) n ≡ []
 bare n = empty-at (replicate 256 0) (replicate 512 0) (replicate 512 0) (replicate 512 0) 256 n

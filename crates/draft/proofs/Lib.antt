@@ -1,0 +1,4 @@
+pub mod First
+pub mod Known
+pub mod Lawful
+pub mod Trees

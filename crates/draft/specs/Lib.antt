@@ -1,0 +1,5 @@
+pub mod Lawful
+pub mod Refusals
+pub mod Rows
+pub mod Sets
+pub mod Tables

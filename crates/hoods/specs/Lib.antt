@@ -1,0 +1,4 @@
+pub mod Arcs
+pub mod Parts
+pub mod Typings
+pub mod Words

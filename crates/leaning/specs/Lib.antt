@@ -1,0 +1,3 @@
+pub mod Labels
+pub mod Pairs
+pub mod Search

@@ -1,0 +1,5 @@
+pub mod Apart
+pub mod Flags
+pub mod Bits
+pub mod Scatter
+pub mod Tally

@@ -1,0 +1,4 @@
+pub mod Bytes
+pub mod Places
+pub mod Steps
+pub mod Decisions

@@ -1,0 +1,3 @@
+pub mod Gains
+pub mod Steps
+pub mod Tables

@@ -1,0 +1,5 @@
+// Tests of the row store.
+#[cfg(test)]
+mod model;
+#[cfg(test)]
+mod tests;

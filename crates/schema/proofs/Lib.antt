@@ -1,0 +1,3 @@
+pub mod Looked
+pub mod Stratified
+pub mod Written
