@@ -8,11 +8,12 @@ It shares nothing with the program but docs/SCRIPT.md. The expected output that 
 import sys
 
 COMMANDS = ("a command: store, term, test, draft, set, triple, shape, label, accept, strata, "
-            "put, take, fan, arc, arcs, total, literal or holds")
+            "put, take, fan, arc, arcs, total, literal, holds, typed, untyped, satisfies or satisfied")
 EXPECTED = {
-    "kind": "a kind of store: chain",
+    "kind": "a kind of store: chain NODES or rows NODES ROWS",
     "node": "a node from 0 to 65535",
     "count": "a number of nodes from 0 to 65535",
+    "rows": "a number of rows from 0 to 65535",
     "property": "a property from 0 to 255",
     "place": "a place from 0 to 255",
     "test number": "a test number from 0 to 65535",
@@ -48,12 +49,16 @@ ARGUMENTS = {
     "total": [],
     "literal": ["node"],
     "holds": ["node", "test number"],
+    "typed": ["node", "label"],
+    "untyped": [],
+    "satisfies": ["node", "label"],
+    "satisfied": [],
 }
 DRAFT = ("draft", "set", "triple", "shape", "label", "accept", "strata")
 TRIPLE_ROWS = {"empty": [], "arc": ["row", "label"], "each": ["row", "row"], "some": ["row", "row"],
                "times": ["row", "least", "most"]}
 SHAPE_ROWS = {"value": ["test number"], "hood": ["row"], "and": ["row", "row"], "or": ["row", "row"], "not": ["row"]}
-RANGES = {"row": (0, 255), "label": (0, 255), "least": (0, 255), "most": (0, 255), "node": (0, 65535), "count": (0, 65535), "property": (0, 255), "place": (0, 255),
+RANGES = {"row": (0, 255), "label": (0, 255), "least": (0, 255), "most": (0, 255), "node": (0, 65535), "count": (0, 65535), "rows": (0, 65535), "property": (0, 255), "place": (0, 255),
           "test number": (0, 65535), "value": (-2**31, 2**31 - 1)}
 
 
@@ -155,9 +160,9 @@ class Draft:
 
 
 class House:
-    CAPACITY = 512
-
     def __init__(self):
+        self.capacity = 512
+        self.typing = set()
         self.terms, self.tests, self.nodes = [], [], None
         self.triples, self.called = set(), False
         self.drafted, self.accepted = Draft(), Draft()
@@ -166,7 +171,7 @@ class House:
         words = text.split()
         name = words.pop(0)
         if name == "store":
-            parts = choice(words, "kind", {"chain": ["count"]})
+            parts = choice(words, "kind", {"chain": ["count"], "rows": ["count", "rows"]})
         elif name == "term":
             parts = choice(words, "term", {"iri": [], "blank": [], "text": [], "whole": ["value"]})
         elif name == "test":
@@ -226,6 +231,8 @@ class House:
             if self.nodes is not None:
                 raise Unreadable(EXPECTED["one store"])
             self.nodes = min(parts[1], 256)
+            if parts[0] == "rows":
+                self.capacity = min(parts[2], 1024)
             return f"{self.nodes} nodes"
         table = self.terms if name == "term" else self.tests
         table.append(parts)
@@ -237,7 +244,7 @@ class House:
     def put(self, s, p, o):
         fan = len([t for t in self.triples if t[0] == s])
         for fails, number in ((s >= self.nodes, 7), (o >= self.nodes, 8), ((s, p, o) in self.triples, 10),
-                              (fan == 12, 11), (len(self.triples) == self.CAPACITY, 12)):
+                              (fan == 12, 11), (len(self.triples) == self.capacity, 12)):
             if fails:
                 return self.refused(number)
         self.triples.add((s, p, o))
@@ -266,7 +273,7 @@ class House:
         return " ".join(f"({p}, {o})" for p, o in arcs) or "none"
 
     def total(self):
-        return f"{len(self.triples)} of {self.CAPACITY}"
+        return f"{len(self.triples)} of {self.capacity}"
 
     def literal(self, n):
         return "yes" if n < len(self.terms) and self.terms[n][0] in ("text", "whole") else "no"
@@ -286,6 +293,60 @@ class House:
         return "yes" if yes else "no"
 
 
+    def typed(self, n, label):
+        self.pairs = getattr(self, "pairs", 0) + 1
+        self.typing.add((n, label))
+        return f"{self.pairs} pairs"
+
+    def untyped(self):
+        self.pairs, self.typing = 0, set()
+        return "0 pairs"
+
+    def meets(self, row, arcs):
+        """Whether a set of arcs meets a triple row: every way to split it is tried."""
+        kind, *names = self.accepted.triples[row]
+        if kind == "empty":
+            return not arcs
+        if kind == "arc":
+            return len(arcs) == 1 and all(p in self.accepted.sets[names[0]] and (o, names[1]) in self.typing for p, o in arcs)
+        if kind == "some":
+            return any(self.meets(name, arcs) for name in names)
+        if kind == "each":
+            return any(self.meets(names[0], part) and self.meets(names[1], arcs - part) for part in parts_of(arcs))
+        least, most = names[1], names[2]
+        return any(self.splits(names[0], arcs, k) for k in range(least, (least + len(arcs) if most is None else min(most, least + len(arcs))) + 1))
+
+    def splits(self, row, arcs, k):
+        if k == 0:
+            return not arcs
+        if not arcs:
+            return self.meets(row, arcs)
+        return any(self.meets(row, part) and self.splits(row, arcs - part, k - 1) for part in parts_of(arcs))
+
+    def shape(self, row, n):
+        kind, *names = self.accepted.shapes[row]
+        if kind == "value":
+            return self.holds(n, names[0]) == "yes"
+        if kind == "hood":
+            return self.meets(names[0], frozenset((p, o) for s, p, o in self.triples if s == n))
+        if kind == "not":
+            return not self.shape(names[0], n)
+        return {"and": all, "or": any}[kind](self.shape(name, n) for name in names)
+
+    def satisfies(self, n, label):
+        there = n < self.nodes and label < len(self.accepted.labels)
+        return "yes" if there and self.shape(self.accepted.labels[label], n) else "no"
+
+    def satisfied(self):
+        pairs = [(n, label) for n in range(self.nodes) for label in range(len(self.accepted.labels)) if self.satisfies(n, label) == "yes"]
+        return " ".join(f"({n}, {label})" for n, label in pairs) or "none"
+
+
+def parts_of(arcs):
+    arcs = list(arcs)
+    return [frozenset(a for i, a in enumerate(arcs) if mask >> i & 1) for mask in range(1 << len(arcs))]
+
+
 def main():
     house = House()
     for index, line in enumerate(sys.stdin.read().splitlines(), 1):
@@ -297,7 +358,7 @@ def main():
         except Unreadable as expected:
             print(f"line {index}: {text}: expected {expected}; nothing was done")
     nodes = house.nodes or 0
-    print(f"store: {nodes} nodes, {len(house.triples)} of {house.CAPACITY} triples")
+    print(f"store: {nodes} nodes, {len(house.triples)} of {house.capacity} triples")
     for n in range(nodes):
         print(f"node {n}: {house.arcs(n)}")
 

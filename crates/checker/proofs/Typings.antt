@@ -35,16 +35,12 @@ satisfied-bounded S G table n l h =
     let T = In (typed (S .labels) table) in
     let B = In (byte-typing (G .nodes) (S .labels) table) in
     let there : (p o : ℕ) → Member (p, o) (G .arcs n) → (k : ℕ) → T o k → B o k = λ p o m k t. sym (bounded (G .nodes) (S .labels) table o k (inside-member (G .nodes) (G .arcs n) p o h m)) ∙ t in
-    let back : (p o : ℕ) → Member (p, o) (G .arcs n) → (k : ℕ) → B o k → T o k = λ p o m k t. bounded (G .nodes) (S .labels) table o k (inside-member (G .nodes) (G .arcs n) p o h m) ∙ t in
-    (satisfies-local (S .sets) T B (G .passes n) (G .arcs n) (S .definition l) (λ p o m k a. there p o m k) (λ p o m k a b. back p o m k),
-    satisfies-local (S .sets) B T (G .passes n) (G .arcs n) (S .definition l) (λ p o m k a. back p o m k) (λ p o m k a b. there p o m k))
+    let back : (p o : ℕ) → Member (p, o) (G .arcs n) → (k : ℕ) → B o k → T o k = λ p o m k t. bounded (G .nodes) (S .labels) table o k (inside-member (G .nodes) (G .arcs n) p o h m) ∙ t in (
+      satisfies-local (S .sets) T B (G .passes n) (G .arcs n) (S .definition l) (λ p o m k a. there p o m k) (λ p o m k a b. back p o m k),
+      satisfies-local (S .sets) B T (G .passes n) (G .arcs n) (S .definition l) (λ p o m k a. back p o m k) (λ p o m k a b. there p o m k),
+    )
 
 -- arcs by place
-
-pub nth-member : {A : Type 0} (zs : List A) (i : ℕ) (a : A) → nth zs i ≡ Some a → Member a zs
-nth-member [] i a e = let z : _≡_ {A = ℕ} 0 1 = cc in absurd (omega arith)
-nth-member (z ∷ zs) zero a e = let q : z ≡ a = cc in subst (λ x. Member x (z ∷ zs)) q first
-nth-member (z ∷ zs) (suc i) a e = later (nth-member zs i a e)
 
 -- the object o stands at none of the first places
 abbrev pub Passed : List (ℕ × ℕ) → ℕ → ℕ → Type 0

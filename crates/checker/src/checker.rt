@@ -37,7 +37,14 @@ pub impl<'a, S: Store, V: ValueTest> NodeCheck for Checker<'a, S, V> as CheckerN
 
     fn satisfied(&mut self, typing: &[u8], node: u16) -> [bool; 32] {
         self.store.lawful();
-        satisfied(self.tables, self.store, self.values, typing, node, self.scratch)
+        satisfied(
+            self.tables,
+            self.store,
+            self.values,
+            typing,
+            node,
+            self.scratch,
+        )
     }
 
     fn leads_to(&self, node: u16, object: u16) -> bool {

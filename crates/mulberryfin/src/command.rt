@@ -1,8 +1,8 @@
 // One line of a script, read into what it asks for.
-use crate::expected::Expected;
 use crate::draft_lines::DraftLine;
 use crate::draft_lines::read_draft_line;
 use crate::draft_lines::read_set;
+use crate::expected::Expected;
 use std::str::FromStr;
 use std::str::SplitWhitespace;
 use triple::Triple;

@@ -2,26 +2,21 @@
 use Prim.Native.Nat.{ℕ, _+_, _≤_, _<_}
 use mathlib.Core.Path.{_≡_, refl, sym, ap, subst, _∙_}
 use mathlib.Core.Logic.{_⊎_, inl, inr, _≢_}
-use mathlib.Core.Bool.{Bool, true, false, cond, _&&_}
+use mathlib.Core.Bool.{Bool, true, false}
 use mathlib.Core.List.{List}
 use native.Mathlib.Omega.{arith}
 use native.Mathlib.Decide.{ℕ-discrete, decLt}
 use lib.ListN.{length, getD, set}
-use lib.Dec.{ltb}
 use Rattle.std.specs.Orderings.{Decides}
 use Rattle.std.specs.shelf.Lists.{sum}
-use Rattle.std.proofs.shelf.Lists.{getD-set-same, getD-set-other, length-set}
+use Rattle.std.proofs.shelf.Lists.{getD-set-same, getD-set-other}
 use Rattle.std.proofs.shelf.Sums.{sumBy-set}
-use Rattle.std.proofs.shelf.Tests.{lt-ltb, le-ltb, cases-bool, true≢false}
+use Rattle.std.proofs.shelf.Tests.{true≢false}
 use Rattle.shapes.proofs.Decide.{false-is-not}
 use Rattle.refine.specs.Tables.{has-label}
 use Rattle.refine.specs.Narrowing.{Taken, Cleared, Marked}
 
 module _ (strata wanted : List ℕ) (i start : ℕ) (found : List Bool) (x : List ℕ) where
-  pub cleared-none : Cleared strata wanted i start found x 0 false x
-  cleared-none =
-      record { change = λ k. inl refl; left = λ l h. absurd (omega arith); same = λ e. refl; fewer = λ e. false-is-not e }
-
   taken-more : (m : ℕ) (y z : List ℕ) (k : ℕ) → getD z k 0 ≡ getD y k 0 → Taken strata wanted i start found x m y k → Taken strata wanted i start found x (m + 1) z k
   taken-more m y z k e t =
       record {
@@ -104,9 +99,6 @@ module _ (strata wanted : List ℕ) (i start : ℕ) (found : List Bool) (x : Lis
           absurd (omega (arith, sym (ap (λ l. getD (set y (start + m) 0) (start + l) 0) e) ∙ d, gone))
 
 module _ (L : ℕ → Type 0) (x : List Bool) where
-  pub marked-none : Marked L 0 x x
-  marked-none = record { before = λ n h. absurd (omega arith); past = λ n h. refl }
-
   pub marked-set : (m : ℕ) (y : List Bool) → Marked L m x y → m < length y → L m → Marked L (m + 1) x (set y m true)
   marked-set m y c long here =
       record {

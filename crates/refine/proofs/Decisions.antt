@@ -1,21 +1,20 @@
 -- One stratum after the other, from the verdicts on the held pairs to those on the wanted ones.
-use Prim.Native.Nat.{ℕ, _+_, _*_, _%_, _≤_, _<_}
-use mathlib.Core.Path.{_≡_, refl, sym, ap, subst, _∙_}
+use Prim.Native.Nat.{ℕ, _+_, _≤_, _<_}
+use mathlib.Core.Path.{_≡_, refl, sym, ap, _∙_}
 use mathlib.Core.Logic.{_⊎_, inl, inr, _↔_, Iff·trans}
-use mathlib.Core.Bool.{Bool, true, false, cond, _&&_}
+use mathlib.Core.Bool.{true, false, cond}
 use mathlib.Core.List.{List}
 use native.Mathlib.Omega.{arith}
 use native.Mathlib.Decide.{decLt}
 use lib.ListN.{getD}
-use lib.Dec.{eqb, ltb}
 use Rattle.std.proofs.shelf.Tests.{cases-bool, both-ways, cond-true, cond-false, cond-both}
 use Rattle.std.proofs.shelf.Bits.{mod-mul-add}
 use Rattle.shapes.specs.Expr.{Schema}
 use Rattle.shapes.specs.Typing.{Graph, Typing, In, Satisfied, Maximal}
 use Rattle.shapes.specs.Refining.{Covers, Stable as AllStable}
 use Rattle.shapes.proofs.Refinement.{maximal-satisfied, refined}
-use Rattle.shapes.specs.Bytes.{place, byte-typing}
-use Rattle.refine.specs.Deciding.{stratum, either, size, table, Right, Ready, is-wanted, Untouched, Bits}
+use Rattle.shapes.specs.Bytes.{place}
+use Rattle.refine.specs.Deciding.{stratum, either, table, Right, Ready, is-wanted, Untouched, Bits}
 use Rattle.refine.specs.Narrowing.{is-due, Narrowed, Stable}
 use Rattle.refine.proofs.Places.{place-below, decides-shown, shown-same, decides-either, decides-wanted, decides-due}
 
@@ -57,10 +56,6 @@ module _ (S : Schema) (G : Graph) (strata held wanted : List ℕ) where
 
     pub ready-untouched : (x : List ℕ) → Untouched S G wanted x₀ x → Ready S G (stratum strata) (table S G held) (table S G wanted) (table S G x)
     ready-untouched x same = record { stratified = ready .stratified; apart = ready .apart; closed = ready .closed; right = held-right x same }
-
-  pub risen-none : (x : List ℕ) → Bits S G wanted x → Risen 1 x x
-  risen-none x bits =
-      record { same = λ k e. refl; bits = bits; right = λ ready n l c z. absurd (omega (arith, ready .stratified .from-one l (within n l c .1))) }
 
   not-due : (i k : ℕ) → is-wanted S G wanted k ≡ false → is-due S G strata wanted i k ≡ false
   not-due i k e = pick (cases-bool (is-due S G strata wanted i k))
@@ -149,6 +144,3 @@ module _ (S : Schema) (G : Graph) (strata held wanted : List ℕ) where
   module _ (x₀ x : List ℕ) (cleared : (k : ℕ) → getD x k 0 ≡ cond (is-wanted S G wanted k) 0 (getD x₀ k 0)) where
     pub cleared-untouched : Untouched S G wanted x₀ x
     cleared-untouched k e = cleared k ∙ cond-false (is-wanted S G wanted k) 0 (getD x₀ k 0) e
-
-    pub cleared-bits : Bits S G wanted x
-    cleared-bits k e = omega (arith, cleared k ∙ cond-true (is-wanted S G wanted k) 0 (getD x₀ k 0) e)

@@ -1,7 +1,7 @@
 -- The places of pairs in a table, and what the tests on them say.
 use Prim.Native.Nat.{ℕ, _+_, _*_, _%_, _/_, _≤_, _<_}
 use mathlib.Core.Path.{_≡_, sym, ap, subst, _∙_}
-use mathlib.Core.Bool.{Bool, true, false, _&&_, _||_}
+use mathlib.Core.Bool.{_&&_}
 use mathlib.Core.List.{List}
 use mathlib.Core.Logic.{_⊎_}
 use native.Mathlib.Omega.{arith}
@@ -37,7 +37,7 @@ module _ (N L : ℕ) where
   decides-shown x n l =
       decides-and (ltb n N && ltb l L) (eqb (getD x (place L n l) 0) 1) (decides-and (ltb n N) (ltb l L) (decides-ltb n N) (decides-ltb l L)) (decides-eqb (getD x (place L n l) 0) 1)
 
-  -- a pair whose byte is the same is shown by both
+  -- a pair whose byte is the same is byte-typing by both
   pub shown-same : (x y : List ℕ) (n l : ℕ) → getD y (place L n l) 0 ≡ getD x (place L n l) 0 → In (byte-typing N L x) n l → In (byte-typing N L y) n l
   shown-same x y n l e h = ap (λ b. (ltb n N && ltb l L) && eqb b 1) e ∙ h
 

@@ -7,18 +7,14 @@ use mathlib.Core.List.{List}
 use native.Mathlib.Omega.{arith}
 use native.Mathlib.Decide.{ℕ-discrete, decLt}
 use lib.ListN.{length, getD, set}
-use Rattle.std.specs.Orderings.{Decides}
 use Rattle.std.specs.shelf.Lists.{sum}
 use Rattle.std.proofs.shelf.Lists.{getD-set-same, getD-set-other}
 use Rattle.std.proofs.shelf.Tests.{both-ways, true≢false, cases-bool}
 use Rattle.std.proofs.shelf.Ways.{not-from-decides}
 use Rattle.std.proofs.shelf.Bits.{mod-mul-add}
 use Rattle.shapes.specs.Expr.{Schema}
-use Rattle.shapes.specs.References.{Stratification}
 use Rattle.shapes.specs.Lists.{Member}
-use Rattle.shapes.specs.Typing.{Graph, Typing, In, Satisfied}
-use Rattle.shapes.specs.Leaning.{Closed}
-use Rattle.shapes.specs.Refining.{Covers}
+use Rattle.shapes.specs.Typing.{Graph, In, Satisfied}
 use Rattle.shapes.proofs.Decide.{false-is-not}
 use Rattle.shapes.proofs.Satisfaction.{satisfies-local}
 use Rattle.shapes.proofs.Refinement.{covers-less}
@@ -212,10 +208,6 @@ module _ (S : Schema) (G : Graph) (strata wanted : List ℕ) (i : ℕ) where
           (ap (λ l. getD strata l 0) (sym (mod-mul-add n (S .labels) l h)) ∙ w .1 .1))
 
   module _ (marks : List Bool) (x : List ℕ) where
-    pub passed-none : Passed S G strata wanted i false marks marks x x 0
-    passed-none =
-        record { change = narrowed-refl x; after = λ s. s; same = λ e. (refl, λ n h. absurd (omega arith)); fewer = λ e. false-is-not e }
-
     module _ (any : Bool) (marks′ : List Bool) (y : List ℕ) (m : ℕ) (p : Passed S G strata wanted i any marks marks′ x y m) where
       pub passed-unmarked : getD marks′ m false ≡ false → Passed S G strata wanted i any marks marks′ x y (m + 1)
       passed-unmarked e =

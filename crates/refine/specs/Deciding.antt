@@ -11,7 +11,7 @@
 --     Untouched ..        no other byte changed
 --     Bits ..             the byte of a wanted pair is 0 or 1
 --     Written ..          where there is room, it is so in the table after
-use Prim.Native.Nat.{ℕ, _*_, _≤_, _<_}
+use Prim.Native.Nat.{ℕ, _*_, _≤_}
 use mathlib.Core.Path.{_≡_}
 use mathlib.Core.Logic.{_↔_}
 use mathlib.Core.Bool.{Bool, true, false, _&&_, _||_}

@@ -50,10 +50,7 @@ fn fails(
     requires typing_long { ⌜ place < length (now typing) ⌝ }
     ensures { λ r. ⌜ Decides r ((getD (now (typing .entry)) place 0 ≡ 1) × (getD (now (wanted .entry)) place 0 ≡ 1) × (getD (now (strata .entry)) label 0 ≡ stratum) × (has-label (now (found .entry)) label ≡ false)) ⌝ }
 {
-    typing[place] == 1
-        && wanted[place] == 1
-        && strata[label] == stratum
-        && !found[label]
+    typing[place] == 1 && wanted[place] == 1 && strata[label] == stratum && !found[label]
 }
 
 // Clears the bytes of a row, from its start on, whose pairs fail; says whether it cleared one.

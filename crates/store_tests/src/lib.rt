@@ -2,6 +2,8 @@
 #[cfg(test)]
 mod model;
 #[cfg(test)]
+mod row_tests;
+#[cfg(test)]
 mod runs;
 #[cfg(test)]
 mod tests;

@@ -78,3 +78,29 @@ pub fn wander<S: Store>(
     }
     compare(store, model)
 }
+
+// The same puts and takes on two stores: equal answers, fans and totals.
+pub fn alike<A: Store, B: Store>(a: &mut A, b: &mut B, nodes: u16, calls: u16) -> Result<(), Fail> {
+    let mut seed = 1117u32;
+    for _ in 0..calls {
+        let subject = pick(seed, nodes);
+        seed = next(seed);
+        let object = pick(seed, nodes);
+        let property = (pick(seed, 3) & 0xff) as u8;
+        seed = next(seed);
+        let triple = Triple {
+            subject,
+            property,
+            object,
+        };
+        if seed >= 0x5000_0000 {
+            check_eq(number(a.put(triple)), number(b.put(triple)))?;
+        } else {
+            check_eq(number(a.take(triple)), number(b.take(triple)))?;
+        }
+        seed = next(seed);
+        check_eq(a.total(), b.total())?;
+        check_eq(a.fan(subject), b.fan(subject))?;
+    }
+    Ok(())
+}

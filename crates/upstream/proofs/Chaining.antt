@@ -1,6 +1,5 @@
 -- Chains of cells: one more cell, and the arcs of one more node. Assumes nothing.
 use Prim.Native.Nat.{ℕ, zero, suc, _+_, _<_, _≤_}
-use mathlib.Core.Bool.{true}
 use mathlib.Core.List.{List, [], _∷_}
 use mathlib.Core.Logic.{_⊎_, inl, inr, ⊎-elim, _↔_}
 use mathlib.Core.Path.{_≡_, refl, sym, ap, subst, _∙_}
@@ -9,12 +8,11 @@ use native.Mathlib.Numerals.{add-one}
 use lib.ListN.{length, getD, set, replicate}
 use lib.Seq.{getD-set-same, getD-set-other}
 use Rattle.std.proofs.shelf.Maps.{nth-getD}
-use Rattle.std.proofs.shelf.Tests.{cases-eq, cases-lt, and-parts, ltb-true}
+use Rattle.std.proofs.shelf.Tests.{cases-eq, cases-lt}
 use Rattle.std.specs.declared.option.Option.the-variants.{Some, None}
 use Rattle.std.specs.shelf.Maps.{nth}
-use Rattle.triple.specs.Arcs.{inside}
-use Rattle.shapes.specs.Lists.{Member, first, later}
-use Rattle.shapes.proofs.Lists.{member-place}
+use Rattle.shapes.specs.Lists.{Member}
+use Rattle.shapes.proofs.Lists.{member-place, nth-member}
 use Rattle.upstream.specs.Chains.{On, here, after, on, Leads, Early, Sound}
 
 -- a chain of cells below c is the same when the cell c is written
@@ -100,11 +98,6 @@ module _ (fs next source : List ℕ) (count node object : ℕ) (sound : Sound fs
       (cases-eq o object)
 
 -- the first arcs of a node, and all of them
-nth-member : {A : Type 0} (zs : List A) (j : ℕ) (a : A) → nth zs j ≡ Some a → Member a zs
-nth-member [] j a e = let z : _≡_ {A = ℕ} 0 1 = cc in absurd (omega arith)
-nth-member (z ∷ zs) zero a e = let x : z ≡ a = cc in subst (λ y. Member y (z ∷ zs)) x first
-nth-member (z ∷ zs) (suc j) a e = later (nth-member zs j a e)
-
 module _ (arcs : ℕ → List (ℕ × ℕ)) (n : ℕ) where
   pub early-all : (o : ℕ) → Early arcs n (length (arcs n)) o ↔ Leads arcs n o
   early-all o = (
@@ -129,14 +122,6 @@ module _ (arcs : ℕ → List (ℕ × ℕ)) (n : ℕ) where
         (λ (x : h .1 ≡ i → ⊥). (h .0, h .1, omega arith, h .3)) (cases-eq (h .1) i),
     λ h. (h .0, h .1, omega arith, h .3),
   )
-
--- an arc leads to a node
-pub inside-nth : (N : ℕ) (zs : List (ℕ × ℕ)) (i p o : ℕ) → inside N zs ≡ true → Some (p, o) ≡ nth zs i → o < N
-inside-nth N [] i p o h e = let z : _≡_ {A = ℕ} 0 1 = cc in absurd (omega arith)
-inside-nth N (z ∷ zs) zero p o h e =
-    let x : z .1 ≡ o = cc in
-    omega (arith, ltb-true (z .1) N (and-parts _ _ (and-parts _ _ h .0) .1))
-inside-nth N (z ∷ zs) (suc i) p o h e = inside-nth N zs i p o (and-parts _ _ h .1) e
 
 getD-zeros : (n o : ℕ) → getD {A = ℕ} (replicate n 0) o 0 ≡ 0
 getD-zeros zero o = refl

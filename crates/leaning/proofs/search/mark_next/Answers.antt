@@ -10,6 +10,8 @@ use Rattle.std.specs.declared.option.Option.the-variants.{Some}
 use Rattle.std.specs.shelf.Maps.{nth}
 use Rattle.shapes.specs.Leaning.{Leans, Admits}
 use Rattle.shapes.specs.Lists.{Member}
+use Rattle.shapes.proofs.Lists.{nth-member}
+use Rattle.triple.proofs.Inside.{inside-nth}
 use Rattle.shapes.specs.Typing.{In}
 use Rattle.shapes.proofs.Leaning.{decides-admits}
 use Rattle.shapes.proofs.Satisfaction.{mentions-from-admits}
@@ -20,7 +22,7 @@ use Rattle.leaning.specs.Labels.{schema-in}
 use Rattle.shapes.specs.Bytes.{byte-typing}
 use Rattle.leaning.specs.Pairs.{graph-of}
 use Rattle.leaning.specs.Search.{Ready, Grown}
-use Rattle.leaning.proofs.Arcs.{nth-member, member-nth, inside-nth, same-arc, no-arc}
+use Rattle.leaning.proofs.Arcs.{member-nth, same-arc, no-arc}
 use Rattle.leaning.proofs.Marking.{grown-then, grown-like, covered-kept}
 use Rattle.leaning.proofs.search.mark_next.Needs as need
 use Rattle.leaning.proofs.search.mark_next.Needs.{in-Some, in-rest}
@@ -60,7 +62,7 @@ loop-place-again g c =
             w .mark-labels .ensures .ready,
             grown-then N L held W _ _ _ _ _ _ (inv .1)
                 (grown-like N L held _ W _ _ _ _
-                (λ h v. (a, subst (λ z. Member (a, z) (arcs n)) (sym (v .0)) (nth-member (arcs n) i (a, b) arc), decides-admits (S .sets) (S .definition l) a (h .label) .0 (sym (labels (h .label)) ∙ v .1))) step),
+                (λ h v. (a, subst (λ z. Member (a, z) (arcs n)) (sym (v .0)) (nth-member (arcs n) i (a, b) (sym arc)), decides-admits (S .sets) (S .definition l) a (h .label) .0 (sym (labels (h .label)) ∙ v .1))) step),
             λ j p o k h e m. ⊎-elim
                 (λ (x : j ≡ i).
                 let y : _≡_ {A = ℕ × ℕ} (p, o) (a, b) = same-arc (arcs n) i (p, o) (a, b) (subst (λ z. nth (arcs n) z ≡ Some (p, o)) x e) arc in

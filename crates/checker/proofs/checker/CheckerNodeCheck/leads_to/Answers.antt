@@ -8,7 +8,8 @@ use Rattle.std.specs.shelf.Maps.{nth}
 use Rattle.std.proofs.shelf.Tests.{false≢true}
 use denote.Ref.{now}
 use Rattle.shapes.specs.Lists.{Member}
-use Rattle.checker.proofs.Typings.{nth-member, passed-none, passed-more, other-object}
+use Rattle.shapes.proofs.Lists.{nth-member}
+use Rattle.checker.proofs.Typings.{passed-none, passed-more, other-object}
 use Rattle.checker.proofs.checker.CheckerNodeCheck.leads_to.Needs as need
 use Rattle.checker.proofs.checker.CheckerNodeCheck.leads_to.Needs.{in-Some·else-found-object, in-rest}
 
@@ -18,9 +19,10 @@ loop-place-holds g c j p h = absurd (omega arith)
 pub loop-place-again : need.loop-place-again
 loop-place-again g c =
     passed-more (g .S·Store .arcs (now (c .args .self .now .store)) (c .args .node)) (c .loop-place .place) (c .args .object) (c .loop-place .inv)
-    (λ p e. elim (c .match-arc .came)
-    [ in-Some·else-found-object w ↦ other-object (c .arc .result) (w .in-Some .field-0-0) p (w .in-Some .found) (c .args .object) (w .in-Some .is) (w .if-found-object .left) (c .arc .ensures ∙ e)
-    | in-rest w ↦ w .in-rest .not-Some (p, c .args .object) (c .arc .ensures ∙ e) ])
+    (λ p e. elim (c .match-arc .came) [
+      | in-Some·else-found-object w ↦ other-object (c .arc .result) (w .in-Some .field-0-0) p (w .in-Some .found) (c .args .object) (w .in-Some .is) (w .if-found-object .left) (c .arc .ensures ∙ e)
+      | in-rest w ↦ w .in-rest .not-Some (p, c .args .object) (c .arc .ensures ∙ e)
+    ])
 
 pub returns-then-found-object : need.returns-then-found-object
 returns-then-found-object g c =

@@ -13,8 +13,8 @@ returns g c =
     let G = graph (g .S·Store .nodes (now (m .store))) (g .S·Store .arcs (now (m .store))) (g .V·ValueTest .passes (now (m .values))) in
     record {
       value = λ l n k.
-        let found = c .satisfied .ensures l in
-        let same = satisfied-bounded S G (c .args .typing .now) (c .args .node) l (c .lawful .ensures .within (c .args .node)) in
-        (λ e. same .0 (found .0 e .2), λ s. found .1 (n, k, same .1 s));
+          let found = c .satisfied .ensures l in
+          let same = satisfied-bounded S G (c .args .typing .now) (c .args .node) l (c .lawful .ensures .within (c .args .node)) in
+          (λ e. same .0 (found .0 e .2), λ s. found .1 (n, k, same .1 s));
       kept = (refl, refl);
     }

@@ -2,9 +2,10 @@ use Prim.Native.Nat.{ℕ, _+_, _≤_}
 use mathlib.Core.Logic.{_⊎_, _↔_}
 use mathlib.Core.Path.{_≡_, sym, subst}
 use native.Mathlib.Omega.{arith}
+use Rattle.triple.proofs.Inside.{inside-nth}
 use Rattle.upstream.specs.declared.backward.Backward.{Backward}
 use Rattle.upstream.specs.Chains.{on, Early, Sound}
-use Rattle.upstream.proofs.Chaining.{inside-nth, place-some, place-none, place-all}
+use Rattle.upstream.proofs.Chaining.{place-some, place-none, place-all}
 use Rattle.upstream.proofs.backward.Backward.add_arcs.Needs as need
 use Rattle.upstream.proofs.backward.Backward.add_arcs.Needs.{in-Some, in-rest}
 
