@@ -71,14 +71,8 @@ pub(crate) fn meets(
                 for code in 0..assignments(parts) {
                     let mut all = parts > 0;
                     for which in 0..parts {
-                        all = all
-                            && meets(
-                                depth - 1,
-                                rows,
-                                a,
-                                part(chosen, parts, code, which),
-                                admitted,
-                            );
+                        let own = part(chosen, parts, code, which);
+                        all = all && meets(depth - 1, rows, a, own, admitted);
                     }
                     if all {
                         return true;

@@ -5,14 +5,14 @@ use triple::Triple;
 use triple::TriplePartialEq;
 
 #[derive(Drop)]
-pub struct Model {
-    pub nodes: u16,
-    pub capacity: usize,
-    pub triples: Vec<Triple>,
+pub(crate) struct Model {
+    pub(crate) nodes: u16,
+    pub(crate) capacity: usize,
+    pub(crate) triples: Vec<Triple>,
 }
 
 impl Model {
-    pub fn new(heap: Global, nodes: u16, capacity: usize) -> Model {
+    pub(crate) fn new(heap: Global, nodes: u16, capacity: usize) -> Model {
         Model {
             nodes,
             capacity,
@@ -20,7 +20,7 @@ impl Model {
         }
     }
 
-    pub fn has(&self, triple: Triple) -> bool {
+    pub(crate) fn has(&self, triple: Triple) -> bool {
         for t in self.triples.as_slice() {
             if *t == triple {
                 return true;
@@ -29,7 +29,7 @@ impl Model {
         false
     }
 
-    pub fn fan(&self, node: u16) -> usize {
+    pub(crate) fn fan(&self, node: u16) -> usize {
         let mut fan = 0usize;
         for t in self.triples.as_slice() {
             if t.subject == node {
@@ -40,7 +40,7 @@ impl Model {
     }
 
     // The number of the refusal, or 0.
-    pub fn put(&mut self, triple: Triple) -> Result<u8, AllocError> {
+    pub(crate) fn put(&mut self, triple: Triple) -> Result<u8, AllocError> {
         if triple.subject >= self.nodes {
             return Ok(7);
         }
@@ -60,7 +60,7 @@ impl Model {
         Ok(0)
     }
 
-    pub fn take(&mut self, heap: Global, triple: Triple) -> Result<u8, AllocError> {
+    pub(crate) fn take(&mut self, heap: Global, triple: Triple) -> Result<u8, AllocError> {
         if triple.subject >= self.nodes {
             return Ok(7);
         }

@@ -6,7 +6,7 @@ use triple::Store;
 use triple::StoreFault;
 use triple::Triple;
 
-pub fn number(result: Result<(), StoreFault>) -> u8 {
+pub(crate) fn number(result: Result<(), StoreFault>) -> u8 {
     match result {
         Ok(()) => 0,
         Err(fault) => fault.number(),
@@ -26,7 +26,7 @@ fn found<S: Store>(store: &S, triple: Triple) -> bool {
 }
 
 // The store answers every question as the model does.
-pub fn compare<S: Store>(store: &S, model: &Model) -> Result<(), Fail> {
+pub(crate) fn compare<S: Store>(store: &S, model: &Model) -> Result<(), Fail> {
     check_eq(usize::from(store.total()), model.triples.len())?;
     for node in 0..=model.nodes {
         check_eq(usize::from(store.fan(node)), model.fan(node))?;
@@ -39,16 +39,16 @@ pub fn compare<S: Store>(store: &S, model: &Model) -> Result<(), Fail> {
 }
 
 // A sequence of numbers that looks random.
-fn next(seed: u32) -> u32 {
-    seed.wrapping_mul(1664525).wrapping_add(1013904223)
+fn next(state: u32) -> u32 {
+    state.wrapping_mul(1664525).wrapping_add(1013904223)
 }
 
-fn pick(seed: u32, below: u16) -> u16 {
-    ((seed >> 16) % (u32::from(below).max(1))) as u16
+fn pick(state: u32, below: u16) -> u16 {
+    ((state >> 16) % (u32::from(below).max(1))) as u16
 }
 
 // Puts and takes of triples whose nodes are below `nodes` + 1, so that some are not in the store.
-pub fn wander<S: Store>(
+pub(crate) fn wander<S: Store>(
     heap: Global,
     store: &mut S,
     model: &mut Model,
@@ -56,49 +56,54 @@ pub fn wander<S: Store>(
     properties: u16,
 ) -> Result<(), Fail> {
     let nodes = model.nodes.saturating_add(1);
-    let mut seed = 2026u32;
+    let mut state = 2026u32;
     for _ in 0..calls {
-        let subject = pick(seed, nodes);
-        seed = next(seed);
-        let property = (pick(seed, properties) & 0xff) as u8;
-        seed = next(seed);
-        let object = pick(seed, nodes);
-        seed = next(seed);
+        let subject = pick(state, nodes);
+        state = next(state);
+        let property = (pick(state, properties) & 0xff) as u8;
+        state = next(state);
+        let object = pick(state, nodes);
+        state = next(state);
         let triple = Triple {
             subject,
             property,
             object,
         };
-        if seed >= 0x6000_0000 {
+        if state >= 0x6000_0000 {
             check_eq(number(store.put(triple)), model.put(triple)?)?;
         } else {
             check_eq(number(store.take(triple)), model.take(heap, triple)?)?;
         }
-        seed = next(seed);
+        state = next(state);
     }
     compare(store, model)
 }
 
 // The same puts and takes on two stores: equal answers, fans and totals.
-pub fn alike<A: Store, B: Store>(a: &mut A, b: &mut B, nodes: u16, calls: u16) -> Result<(), Fail> {
-    let mut seed = 1117u32;
+pub(crate) fn alike<A: Store, B: Store>(
+    a: &mut A,
+    b: &mut B,
+    nodes: u16,
+    calls: u16,
+) -> Result<(), Fail> {
+    let mut state = 1117u32;
     for _ in 0..calls {
-        let subject = pick(seed, nodes);
-        seed = next(seed);
-        let object = pick(seed, nodes);
-        let property = (pick(seed, 3) & 0xff) as u8;
-        seed = next(seed);
+        let subject = pick(state, nodes);
+        state = next(state);
+        let object = pick(state, nodes);
+        let property = (pick(state, 3) & 0xff) as u8;
+        state = next(state);
         let triple = Triple {
             subject,
             property,
             object,
         };
-        if seed >= 0x5000_0000 {
+        if state >= 0x5000_0000 {
             check_eq(number(a.put(triple)), number(b.put(triple)))?;
         } else {
             check_eq(number(a.take(triple)), number(b.take(triple)))?;
         }
-        seed = next(seed);
+        state = next(state);
         check_eq(a.total(), b.total())?;
         check_eq(a.fan(subject), b.fan(subject))?;
     }
