@@ -69,7 +69,7 @@ pub(crate) fn wander<S: Store>(
             property,
             object,
         };
-        if state >= 0x6000_0000 {
+        if state >= 1_610_612_736 {
             check_eq(number(store.put(triple)), model.put(triple)?)?;
         } else {
             check_eq(number(store.take(triple)), model.take(heap, triple)?)?;
@@ -98,7 +98,7 @@ pub(crate) fn alike<A: Store, B: Store>(
             property,
             object,
         };
-        if state >= 0x5000_0000 {
+        if state >= 1_342_177_280 {
             check_eq(number(a.put(triple)), number(b.put(triple)))?;
         } else {
             check_eq(number(a.take(triple)), number(b.take(triple)))?;
