@@ -1,4 +1,6 @@
 // The arcs of a store backwards.
+#![tactic(auto)]
+
 ghost use Rattle.std.specs.Prelude.{◌≡◌, ℕ, ◌+◌, ◌<◌, ◌≤◌, ◌⊎◌, ◌↔◌};
 ghost use Rattle.backward.specs.Chains.{OnChainOf, Leads, Sound};
 

@@ -7,8 +7,8 @@ use crate::splits::satisfies_by_splits;
 use crate::timing::{Work, time_both};
 use anyhow::anyhow;
 use chain::ChainStore;
-use check::{Scratch, satisfies};
 use draft::SchemaFault;
+use node_check::{Scratch, satisfies};
 use schema::Schema;
 use values::{Term, TermKind, TermTable};
 

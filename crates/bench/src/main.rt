@@ -1,4 +1,6 @@
 // Measures the library beside a plain second implementation; without an argument it lists its cases.
+#![tactic(auto)]
+
 mod cases;
 mod checks;
 mod houses;

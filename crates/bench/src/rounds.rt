@@ -1,5 +1,5 @@
 // The plain sweep: every pair of a stratum is checked again in every round, until a round takes nothing out.
-use check::{Scratch, satisfies};
+use node_check::{Scratch, satisfies};
 use tables::LawfulTables;
 use triple::Store;
 use values::ValueTest;

@@ -6,7 +6,7 @@ use crate::rounds::sweep_by_rounds;
 use crate::timing::{CallTime, ROUNDS};
 use anyhow::anyhow;
 use chain::ChainStore;
-use check::Scratch;
+use node_check::Scratch;
 use rows::{Row, RowStore};
 use schema::Schema;
 use std::time::Instant;

@@ -1,4 +1,6 @@
 // The chain store: a triple store in its own fixed memory.
+#![tactic(auto)]
+
 mod calls;
 mod memory;
 

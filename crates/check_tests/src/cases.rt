@@ -1,7 +1,7 @@
 // A node 0 whose arcs all have one property, over nodes that are whole numbers.
 use chain::ChainStore;
-use check::{Scratch, satisfies};
 use draft::{Draft, PropertySet, SchemaFault, ShapeRow, TripleRow};
+use node_check::{Scratch, satisfies};
 use tables::LawfulTables;
 use triple::{Store, StoreFault, Triple};
 use values::{Term, TermKind, TermTable, Test};

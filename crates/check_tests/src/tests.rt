@@ -1,8 +1,8 @@
 // The worked cases, and the comparison with all splits.
 use crate::cases::{schema, store, typing, values};
 use crate::splits::meets;
-use check::{Scratch, satisfies};
 use draft::TripleRow;
+use node_check::{Scratch, satisfies};
 use std::test::Fail;
 
 // Whether node 0 with these objects satisfies HOOD of a row.

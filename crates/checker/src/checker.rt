@@ -1,11 +1,11 @@
 // A node's check, with the memory that it works in.
 ghost use Rattle.std.specs.Prelude.{◌≡◌, ℕ, ◌<◌};
-ghost use Rattle.check.specs.Answers.{graph as graph_of};
+ghost use Rattle.node_check.specs.Answers.{graph as graph_of};
 ghost use Rattle.draft.specs.Tables.{schema_of};
 ghost use Rattle.tables.specs.Held.{held};
 
 use backward::Backward;
-use check::{Scratch, satisfied};
+use node_check::{Scratch, satisfied};
 use refine::NodeCheck;
 use tables::LawfulTables;
 use triple::Store;

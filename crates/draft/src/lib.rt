@@ -1,4 +1,6 @@
 // Drafts of schemas: four tables of rows, and which of them are refused.
+#![tactic(auto)]
+
 mod check;
 mod code;
 mod draft;

@@ -1,7 +1,7 @@
 // An example: a draft, a value test and triples; what sweep, look and held answer for it.
 use crate::builder::DraftBuilder;
 use chain::ChainStore;
-use check::{Scratch, satisfies};
+use node_check::{Scratch, satisfies};
 use schema::Schema;
 use std::alloc::{AllocError, Global};
 use std::test::*;

@@ -1,4 +1,6 @@
 // Worked examples, each with the typing that its text tells.
+#![tactic(auto)]
+
 #[cfg(test)]
 mod accounts;
 #[cfg(test)]

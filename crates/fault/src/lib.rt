@@ -1,4 +1,6 @@
 // The layers of the validator: every refusal names the one where it arose.
+#![tactic(auto)]
+
 use std::fmt;
 
 #[derive(Clone, Copy, PartialEq, Eq, Debug)]

@@ -1,4 +1,6 @@
 // Which triple rows the arcs of a node meet.
+#![tactic(auto)]
+
 mod arcs;
 mod named;
 mod read;

@@ -1,4 +1,6 @@
 // Which pairs of node and label a verdict rests on.
+#![tactic(auto)]
+
 mod admitted;
 mod label_set;
 mod pairs;

@@ -1,1 +1,2 @@
 // x
+#![tactic(auto)]

@@ -1,4 +1,6 @@
 // Sets of masks: which of the masks of a few places have a property, one flag a mask.
+#![tactic(auto)]
+
 mod fan;
 mod join;
 mod parts;

@@ -1,4 +1,6 @@
 // The rules of a validator, read once more and as plainly as can be, for tests to compare with.
+#![tactic(auto)]
+
 mod book;
 mod compare;
 mod facts;

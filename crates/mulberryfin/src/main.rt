@@ -1,4 +1,6 @@
 // Runs a script over a house graph, and prints what each call answers.
+#![tactic(auto)]
+
 mod answer;
 mod batch;
 mod call_answer;

@@ -4,7 +4,7 @@ use crate::command::Question;
 use crate::pages::{list_file, save_file, save_page};
 use crate::session::Typing;
 use crate::trouble::Trouble;
-use check::{Scratch, satisfied, satisfies};
+use node_check::{Scratch, satisfied, satisfies};
 use schema::Schema;
 use std::alloc::{AllocError, Global};
 use triple::Store;
@@ -30,7 +30,7 @@ pub fn sorted_arcs<S: Store>(
             arcs.push(arc)?;
         }
     }
-    arcs.sort();
+    arcs.sort()?;
     Ok(arcs)
 }
 

@@ -1,4 +1,6 @@
 // Graph pages: a store's triples as bytes, and back.
+#![tactic(auto)]
+
 mod code;
 mod fault;
 mod head;

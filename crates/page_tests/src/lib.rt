@@ -1,4 +1,6 @@
 // Tests of graph pages: sizes, refusals and their order, damaged pages, refused entries, round trips.
+#![tactic(auto)]
+
 #[cfg(test)]
 mod damage;
 #[cfg(test)]

@@ -1,4 +1,6 @@
 // Which label refers to which in lawful tables, the negated references on a cycle, and stratifications.
+#![tactic(auto)]
+
 mod cycle;
 mod drawn;
 mod label_set;

@@ -1,4 +1,6 @@
 // Decides wanted pairs of node and label by refinement, stratum by stratum.
+#![tactic(auto)]
+
 mod check;
 mod narrow;
 mod raise;

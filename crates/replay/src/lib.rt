@@ -1,4 +1,6 @@
 // Whole lists of calls on a validator, and what the ledger says of them.
+#![tactic(auto)]
+
 ghost use Rattle.replay.specs.Determined.{Steady, Determined};
 
 mod call;

@@ -1,4 +1,6 @@
 // The row store: a triple store in rows that the caller lends.
+#![tactic(auto)]
+
 mod calls;
 mod row;
 mod scans;

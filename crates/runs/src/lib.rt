@@ -1,4 +1,6 @@
 // A validator from its making on, over a whole list of calls.
+#![tactic(auto)]
+
 ghost use Rattle.std.specs.Prelude.{true, false, ◌&&◌, ◌≡◌, ℕ, leb, length, take, drop};
 ghost use Rattle.shapes.specs.References.{Stratification};
 ghost use Rattle.ledger.specs.Sound.{Sound};

@@ -1,4 +1,6 @@
 // Accepted schemas: how a draft is accepted or refused, the questions about a schema, and its strata.
+#![tactic(auto)]
+
 mod calls;
 mod laws;
 mod questions;

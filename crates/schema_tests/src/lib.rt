@@ -1,4 +1,6 @@
 // Drafts that are accepted or refused, and the strata of those that are accepted.
+#![tactic(auto)]
+
 #[cfg(test)]
 mod cycles;
 #[cfg(test)]

@@ -1,4 +1,6 @@
 // What a schema means: the theorems about typings, each on the contract of a function.
+#![tactic(auto)]
+
 ghost use Rattle.shapes.specs.Cases.{Cases};
 ghost use Rattle.shapes.specs.Claims.{Greatest, StrataFree, Decided, Local, OrderFree, ReachedOnly, EditLocal, Refined, Stratifiable};
 

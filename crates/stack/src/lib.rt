@@ -1,4 +1,6 @@
 // A stack of waiting work over lent slots.
+#![tactic(auto)]
+
 ghost use Rattle.std.specs.Prelude.{◌≡◌, ◌-◌, ◌≤◌, length, is_some, is_ok, ◌==◌, nat_lt};
 ghost use Rattle.stack.specs.Entries.{entries, has_room, pushed, stored, raised, rejoined};
 

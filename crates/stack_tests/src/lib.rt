@@ -1,4 +1,6 @@
 // Tests of the stack, at goals and at bare numbers.
+#![tactic(auto)]
+
 #[cfg(test)]
 mod tests {
     use stack::{Full, Goal, Stack};

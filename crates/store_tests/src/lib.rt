@@ -1,4 +1,6 @@
 // Tests of the triple stores against an independent list of triples, generic over the kind of store.
+#![tactic(auto)]
+
 #[cfg(test)]
 mod model;
 #[cfg(test)]

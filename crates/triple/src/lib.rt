@@ -1,4 +1,6 @@
 // Triples, and what a triple store means.
+#![tactic(auto)]
+
 mod code;
 mod fault;
 mod store;

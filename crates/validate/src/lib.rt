@@ -1,4 +1,6 @@
 // The calls on a validator, and what they promise.
+#![tactic(auto)]
+
 mod code;
 mod fault;
 mod promise;

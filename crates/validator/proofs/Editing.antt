@@ -1,6 +1,6 @@
 -- An accepted edit: what it drops is right, and what is left is sound. Assumes nothing.
 use Rattle.std.proofs.Common.{◌≡◌, ℕ, Bool, true, ◌↔◌, List, sym, refl, subst}
-use Rattle.check.specs.Answers.{graph as graph_of}
+use Rattle.node_check.specs.Answers.{graph as graph_of}
 use Rattle.triple.specs.Arcs.{distinct}
 use Rattle.triple.specs.Stores.{Lists}
 use Rattle.shapes.specs.Bytes.{byte_typing}

@@ -1,13 +1,13 @@
 // How verdicts are decided and held.
 ghost use Rattle.std.specs.Prelude.{◌≡◌, ℕ, ◌*◌, ◌<◌, ◌≤◌, Bool, length, if◌then◌else◌, nat_eq, slice_index};
 ghost use Rattle.shapes.specs.Bytes.{byte_typing};
-ghost use Rattle.check.specs.Answers.{graph as graph_of};
+ghost use Rattle.node_check.specs.Answers.{graph as graph_of};
 ghost use Rattle.schema.specs.Accepted.{meaning};
 ghost use Rattle.validator.specs.Marks.{Joined, Widens, LookedAt, AllDecided};
 
-use check::Scratch;
 use checker::Checker;
 use leaning::reach;
+use node_check::Scratch;
 use refine::{NodeCheck, decide};
 use schema::Schema;
 use stack::Goal;

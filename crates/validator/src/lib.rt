@@ -1,4 +1,6 @@
 // A validator over any store and value test.
+#![tactic(auto)]
+
 mod calls;
 mod decide;
 mod forget;

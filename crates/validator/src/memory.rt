@@ -4,7 +4,7 @@ ghost use Rattle.ledger.specs.Sound.{Sound};
 ghost use Rattle.schema.specs.Accepted.{meaning};
 ghost use Rattle.validator.specs.Books.{book, opening};
 
-use check::Scratch;
+use node_check::Scratch;
 use schema::Schema;
 use stack::Goal;
 use triple::Store;

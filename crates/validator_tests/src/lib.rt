@@ -1,4 +1,6 @@
 // Tests of the validator: worked houses, every refusal, and long lists of calls beside a plain reading of the rules.
+#![tactic(auto)]
+
 #[cfg(test)]
 mod calls;
 #[cfg(test)]

@@ -1,4 +1,6 @@
 // Value tests: which nodes are literals, and which tests hold at a node.
+#![tactic(auto)]
+
 ghost use Rattle.std.specs.Prelude.{◌≡◌, ℕ, Bool};
 
 mod sheet;

@@ -1,4 +1,6 @@
 // Tests of the term table and the answer sheet, at and past the ends of their tables.
+#![tactic(auto)]
+
 #[cfg(test)]
 mod tests {
     use values::{AnswerSheet, Term, TermKind, TermTable, Test, ValueTest};

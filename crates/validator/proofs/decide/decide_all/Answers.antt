@@ -1,5 +1,5 @@
 use Rattle.std.proofs.Common.{◌≡◌, ℕ, ◌*◌, ◌<◌, cond, eqb, get_or, ap, ◌∙◌, subst}
-use Rattle.check.specs.Answers.{graph}
+use Rattle.node_check.specs.Answers.{graph}
 use Rattle.checker.proofs.Typings.{inside_member}
 use Rattle.shapes.specs.Bytes.{byte_typing}
 use Rattle.shapes.proofs.Leaning.{bounded_closed}

@@ -1,6 +1,6 @@
 use Rattle.std.proofs.Common.{◌≡◌, ◌*◌, ◌≤◌, ltb, length, None, sym, refl, ap, ◌∙◌, subst, arith}
 use Rattle.std.proofs.lemmas.Bool.{le-ltb}
-use Rattle.check.specs.Answers.{graph}
+use Rattle.node_check.specs.Answers.{graph}
 use Rattle.draft.specs.Refusals.{refusal}
 use Rattle.draft.specs.Tables.{schema_of}
 use Rattle.refine.specs.Deciding.{Room, Decided}

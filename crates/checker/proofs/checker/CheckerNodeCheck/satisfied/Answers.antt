@@ -1,7 +1,7 @@
 use Rattle.std.proofs.Common.{refl}
 use Rattle.draft.specs.Tables.{schema_of}
 use Rattle.tables.specs.Held.{held}
-use Rattle.check.specs.Answers.{graph}
+use Rattle.node_check.specs.Answers.{graph}
 use Rattle.checker.proofs.Typings.{satisfied_bounded}
 use Rattle.checker.proofs.checker.CheckerNodeCheck.satisfied.Goals as goal
 

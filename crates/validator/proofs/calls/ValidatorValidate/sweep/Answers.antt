@@ -1,7 +1,7 @@
 use Rattle.std.proofs.Common.{◌≡◌, ◌*◌, ◌<◌, ◌≤◌, length, take, sym, refl, ap, ◌∙◌, subst, arith}
 use Rattle.std.proofs.lemmas.Nat.{mul-le}
 use Rattle.std.proofs.lemmas.Bool.{both_ways}
-use Rattle.check.specs.Answers.{graph as graph_of}
+use Rattle.node_check.specs.Answers.{graph as graph_of}
 use Rattle.checker.proofs.Typings.{inside_member}
 use Rattle.shapes.proofs.Leaning.{bounded_closed}
 use Rattle.ledger.specs.Steps.{SweepStep, ones}

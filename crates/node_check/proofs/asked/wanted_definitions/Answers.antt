@@ -1,8 +1,8 @@
 use Rattle.std.proofs.Common.{◌≡◌, ℕ, ◌+◌, ◌<◌, Bool, true, List, length, get_or, set, sym, ap, ◌∙◌, subst, arith, length-set}
 use Rattle.tables.specs.Held.{held}
-use Rattle.check.proofs.Naming.{Defined, defined_more, defined_skip}
-use Rattle.check.proofs.asked.wanted_definitions.Goals as goal
-use Rattle.check.proofs.asked.wanted_definitions.Goals.{then-wanted-label, else-wanted-label}
+use Rattle.node_check.proofs.Naming.{Defined, defined_more, defined_skip}
+use Rattle.node_check.proofs.asked.wanted_definitions.Goals as goal
+use Rattle.node_check.proofs.asked.wanted_definitions.Goals.{then-wanted-label, else-wanted-label}
 
 pub loop-label-preserved : goal.loop-label-preserved
 loop-label-preserved c =

@@ -1,8 +1,8 @@
 use Rattle.std.proofs.Common.{◌≡◌, ◌<◌, true, ◌⊎◌, ◌↔◌, length, set, sym, refl, subst, arith}
 use Rattle.masks.specs.Masks.{On}
 use Rattle.hoods.proofs.Flagged.{flag_set, same_right}
-use Rattle.check.specs.Named.{Hoods}
-use Rattle.check.proofs.asked.flag_hood.Goals as goal
+use Rattle.node_check.specs.Named.{Hoods}
+use Rattle.node_check.proofs.asked.flag_hood.Goals as goal
 
 pub bounds-triples-from : goal.bounds-triples-from
 bounds-triples-from c = omega (arith, c.from.ensures, c.requires c.in-Hood.e (subst (λ row. Hoods row c.in-Hood.e) (sym c.in-Hood.is) refl))

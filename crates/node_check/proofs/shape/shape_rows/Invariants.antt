@@ -1,7 +1,7 @@
 use Rattle.std.proofs.Common.{◌≡◌, length}
 use Rattle.tables.specs.Held.{held}
-use Rattle.check.specs.Shapes.{Settled}
-use Rattle.check.proofs.shape.shape_rows.Given as goal
+use Rattle.node_check.specs.Shapes.{Settled}
+use Rattle.node_check.proofs.shape.shape_rows.Given as goal
 
 abbrev pub invariant-loop-r : goal.invariant-loop-r
 invariant-loop-r g l =

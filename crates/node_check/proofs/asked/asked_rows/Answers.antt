@@ -2,9 +2,9 @@ use Rattle.std.proofs.Common.{◌≡◌, ℕ, ◌<◌, length, get_or, subst, ar
 use Rattle.draft.specs.declared.rows.ShapeRow.TheVariants.{Value}
 use Rattle.tables.specs.Held.{held}
 use Rattle.masks.specs.Masks.{On}
-use Rattle.check.specs.Named.{Names, Hoods}
-use Rattle.check.proofs.Naming.{leads_below, leads_flagged}
-use Rattle.check.proofs.asked.asked_rows.Goals as goal
+use Rattle.node_check.specs.Named.{Names, Hoods}
+use Rattle.node_check.proofs.Naming.{leads_below, leads_flagged}
+use Rattle.node_check.proofs.asked.asked_rows.Goals as goal
 
 pub returns : goal.returns
 returns c e (l, r, h, w, way, k) =

@@ -17,10 +17,10 @@ use Rattle.masks.specs.Masks.{On}
 use Rattle.masks.proofs.Flags.{Upto}
 use Rattle.hoods.specs.Typings.{typed}
 use Rattle.hoods.specs.Words.{Meets}
-use Rattle.check.specs.Answers.{Answered}
-use Rattle.check.specs.Named.{Names, Hoods, Leads, here, on, Asks}
-use Rattle.check.specs.Shapes.{row_holds, Settled}
-use Rattle.check.proofs.Naming.{named_below, hood_below, leads_below}
+use Rattle.node_check.specs.Answers.{Answered}
+use Rattle.node_check.specs.Named.{Names, Hoods, Leads, here, on, Asks}
+use Rattle.node_check.specs.Shapes.{row_holds, Settled}
+use Rattle.node_check.proofs.Naming.{named_below, hood_below, leads_below}
 
 -- a row that may stand at q may stand further on, and before more triple rows
 pub names_more : (n m q p : ℕ) (row : ShapeRow) → n ≤ m → q ≤ p → shape_names n q row ≡ true → shape_names m p row ≡ true

@@ -1,7 +1,7 @@
 use Rattle.std.proofs.Common.{◌≡◌, ◌<◌, true, false, length, get_or, set, replicate, sym, ◌∙◌, subst, arith, get_or-set_same}
 use lib.ListN.{length-replicate}
 use Rattle.masks.specs.Masks.{On}
-use Rattle.check.proofs.satisfies.Goals as goal
+use Rattle.node_check.proofs.satisfies.Goals as goal
 
 pub returns : goal.returns
 returns g c =

@@ -1,9 +1,9 @@
 use Rattle.std.proofs.Common.{◌≡◌, ℕ, ◌<◌, true, ◌⊎◌, ◌↔◌, length, set, sym, refl, ap, ◌∙◌, subst, inl, inr, ⊎_elim, arith}
 use Rattle.masks.specs.Masks.{On}
-use Rattle.check.specs.Named.{Names}
+use Rattle.node_check.specs.Named.{Names}
 use Rattle.hoods.proofs.Flagged.{flag_set, flag_two, same_right}
-use Rattle.check.proofs.Naming.{names_two}
-use Rattle.check.proofs.asked.flag_named.Goals as goal
+use Rattle.node_check.proofs.Naming.{names_two}
+use Rattle.node_check.proofs.asked.flag_named.Goals as goal
 
 pub bounds-shapes-from : goal.bounds-shapes-from
 bounds-shapes-from c = omega (arith, c.from.ensures, c.requires c.in-Not.a (subst (λ row. Names row c.in-Not.a) (sym c.in-Not.is) refl))

@@ -2,7 +2,7 @@
 ghost use Rattle.std.specs.Prelude.{◌≡◌, ℕ, ◌<◌, true, false, length};
 ghost use Rattle.draft.specs.Refusals.{shape_names};
 ghost use Rattle.tables.specs.Held.{held};
-ghost use Rattle.check.specs.Shapes.{row_holds, Settled};
+ghost use Rattle.node_check.specs.Shapes.{row_holds, Settled};
 
 use draft::ShapeRow;
 use tables::LawfulTables;

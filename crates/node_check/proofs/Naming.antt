@@ -7,7 +7,7 @@ use Rattle.draft.specs.declared.rows.ShapeRow.TheVariants.{Value, Hood, And, Or,
 use Rattle.masks.specs.Masks.{On}
 use Rattle.masks.proofs.Flags.{not_on}
 use Rattle.hoods.proofs.Flagged.{flag_set}
-use Rattle.check.specs.Named.{Names, Hoods, Leads, here, on}
+use Rattle.node_check.specs.Named.{Names, Hoods, Leads, here, on}
 
 pub names_two : (row : ShapeRow) (x y : ℕ) → (row ≡ And x y) ⊎ (row ≡ Or x y) → (p : ℕ) → Names row p ↔ ((x ≡ p) ⊎ (y ≡ p))
 names_two row x y (inl e) p = subst (λ z. Names z p ↔ ((x ≡ p) ⊎ (y ≡ p))) (sym e) (λ n. n, λ n. n)

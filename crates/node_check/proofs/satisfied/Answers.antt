@@ -1,6 +1,6 @@
 use Rattle.std.proofs.Common.{◌<◌, true, false, arith}
 use lib.ListN.{get_or-replicate}
-use Rattle.check.proofs.satisfied.Goals as goal
+use Rattle.node_check.proofs.satisfied.Goals as goal
 
 pub returns : goal.returns
 returns g c = λ l.

@@ -6,10 +6,10 @@ use Rattle.masks.specs.Masks.{On}
 use Rattle.masks.proofs.Flags.{Upto, upto_none, upto_more}
 use Rattle.hoods.specs.Words.{Meets}
 use Rattle.hoods.proofs.Flagged.{upto_skip}
-use Rattle.check.specs.Answers.{graph}
-use Rattle.check.proofs.Rows.{answered}
-use Rattle.check.proofs.answers_of.Goals as goal
-use Rattle.check.proofs.answers_of.Goals.{then-wanted-label, else-wanted-label}
+use Rattle.node_check.specs.Answers.{graph}
+use Rattle.node_check.proofs.Rows.{answered}
+use Rattle.node_check.proofs.answers_of.Goals as goal
+use Rattle.node_check.proofs.answers_of.Goals.{then-wanted-label, else-wanted-label}
 
 pub returns-then-node-node-count : goal.returns-then-node-node-count
 returns-then-node-node-count g c = λ l.

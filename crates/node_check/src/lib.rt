@@ -1,8 +1,10 @@
 // The check of one node: which labels' definitions a node satisfies under a typing.
+#![tactic(auto)]
+
 ghost use Rattle.std.specs.Prelude.{◌≡◌, ℕ, ◌<◌, true, ◌↔◌, length};
 ghost use Rattle.tables.specs.Held.{held};
 ghost use Rattle.masks.specs.Masks.{On};
-ghost use Rattle.check.specs.Answers.{graph, Answered};
+ghost use Rattle.node_check.specs.Answers.{graph, Answered};
 
 mod asked;
 mod shape;

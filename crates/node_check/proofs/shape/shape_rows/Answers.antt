@@ -2,9 +2,9 @@ use Rattle.std.proofs.Common.{◌≡◌, ℕ, ◌+◌, ◌<◌, ◌≤◌, true,
 use Rattle.draft.specs.Refusals.{shape_names}
 use Rattle.draft.specs.declared.rows.ShapeRow.TheVariants.{Value}
 use Rattle.tables.specs.Held.{held}
-use Rattle.check.specs.Shapes.{row_holds}
-use Rattle.check.proofs.Rows.{names_more, settled_more}
-use Rattle.check.proofs.shape.shape_rows.Goals as goal
+use Rattle.node_check.specs.Shapes.{row_holds}
+use Rattle.node_check.proofs.Rows.{names_more, settled_more}
+use Rattle.node_check.proofs.shape.shape_rows.Goals as goal
 
 pub row-holds-requires : goal.row-holds-requires
 row-holds-requires g c =

@@ -2,7 +2,7 @@
 ghost use Rattle.std.specs.Prelude.{ℕ, ◌<◌, ◌⊎◌, ◌↔◌, length, slice_index};
 ghost use Rattle.tables.specs.Held.{held};
 ghost use Rattle.masks.specs.Masks.{On};
-ghost use Rattle.check.specs.Named.{Names, Hoods, Asks};
+ghost use Rattle.node_check.specs.Named.{Names, Hoods, Asks};
 
 use draft::ShapeRow;
 use tables::LawfulTables;
