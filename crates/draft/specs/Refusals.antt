@@ -4,8 +4,8 @@
 --     refusal answer       what an answer refuses with, if it does
 --     row_refusal t        the refusal of the tables t, by their lengths and rows alone
 use Rattle.std.specs.Prelude.{ℕ, suc, Bool, true, cond, ◌&&◌, List, [], ◌∷◌, length, Some, None, Ok, Err, Option, Result, nat_le, nat_lt}
-use Rattle.fault.specs.declared.Layer.{Layer}
-use Rattle.fault.specs.declared.Layer.TheVariants.{Schema}
+use Rattle.refusal.specs.declared.Layer.{Layer}
+use Rattle.refusal.specs.declared.Layer.TheVariants.{Schema}
 use Rattle.draft.specs.Tables.{Tables}
 use Rattle.draft.specs.declared.fault.SchemaFault.{SchemaFault}
 use Rattle.draft.specs.declared.fault.SchemaFault.TheVariants.{TooLong, Definition, ShapeRow as ShapeFault, TripleRow as TripleFault, Bounds, Negation, ShortBuffer}

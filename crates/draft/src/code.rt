@@ -3,7 +3,7 @@ ghost use Rattle.std.specs.Prelude.{◌≡◌};
 ghost use Rattle.draft.specs.Refusals.{limit, told};
 
 use crate::fault::{SchemaFault, Table};
-use fault::Layer;
+use refusal::Layer;
 
 impl Table {
     pub fn limit(&self) -> u8

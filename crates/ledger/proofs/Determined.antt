@@ -2,7 +2,7 @@
 use Rattle.std.proofs.Common.{◌≡◌, ℕ, zero, suc, ◌*◌, ◌/◌, ◌%◌, ◌<◌, Bool, true, false, not, ◌&&◌, ◌||◌, ◌⊎◌, ◌↔◌, List, get_or, take, Some, None, Ok, Err, Decides, Option, Result, sym, refl, ap, ◌∙◌, subst, inl, inr, ⊎_elim, mod-lt, div-lt_iff_lt-mul, div-add-mod', arith}
 use native.Mathlib.Decide.{dec_lt}
 use Rattle.std.proofs.lemmas.List.{ext_get_or}
-use Rattle.fault.specs.Refusals.{Refusal}
+use Rattle.refusal.specs.Refusals.{Refusal}
 use Rattle.triple.specs.Arcs.{distinct}
 use Rattle.triple.specs.Stores.{present, is}
 use Rattle.shapes.specs.Expr.{Schema}

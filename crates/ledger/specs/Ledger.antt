@@ -4,8 +4,8 @@
 --     Verdict S σ b     its typing: the maximal typing of its triples under the stratification σ of the schema S
 --     add_refusal ..    how each call refuses, if it does
 use Rattle.std.specs.Prelude.{ℕ, Bool, [], ◌∷◌, Option, nat_le}
-use Rattle.fault.specs.declared.Layer.TheVariants.{Validator}
-use Rattle.fault.specs.Refusals.{Refusal, first, or_else}
+use Rattle.refusal.specs.declared.Layer.TheVariants.{Validator}
+use Rattle.refusal.specs.Refusals.{Refusal, first, or_else}
 use Rattle.triple.specs.Stores.{Lists, put_refusal, take_refusal}
 use Rattle.shapes.specs.Expr.{Schema}
 use Rattle.shapes.specs.Meaning.{Relation}

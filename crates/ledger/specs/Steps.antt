@@ -4,8 +4,8 @@
 --                        the answer to a call, and the ledger after it; a refusal changes nothing
 --     ones table         how many bytes are 1
 use Rattle.std.specs.Prelude.{◌≡◌, ℕ, ◌+◌, ◌*◌, ◌<◌, ◌≤◌, Bool, true, false, cond, ◌⊎◌, ◌↔◌, List, [], ◌∷◌, length, take, Some, None, Ok, Err, Decides, Option, Result, ◌==◌, slice_index}
-use Rattle.fault.specs.declared.Layer.TheVariants.{Validator}
-use Rattle.fault.specs.Refusals.{Refusal}
+use Rattle.refusal.specs.declared.Layer.TheVariants.{Validator}
+use Rattle.refusal.specs.Refusals.{Refusal}
 use Rattle.triple.specs.Arcs.{distinct}
 use Rattle.triple.specs.Stores.{Added, Removed}
 use Rattle.shapes.specs.Expr.{Schema}

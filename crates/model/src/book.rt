@@ -3,7 +3,7 @@ use crate::facts::Facts;
 use crate::pairs::Pairs;
 use crate::references::{Reference, find_references, stratifies};
 use draft::Draft;
-use fault::Layer;
+use refusal::Layer;
 use replay::{Answer, Call};
 use std::alloc::{AllocError, Global};
 use triple::Triple;

@@ -1,5 +1,5 @@
 // What a call on the validator answers, and how it is printed.
-use fault::Layer;
+use refusal::Layer;
 use replay::Call;
 use std::fmt;
 

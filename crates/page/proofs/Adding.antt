@@ -2,7 +2,7 @@
 use Rattle.std.proofs.Common.{◌≡◌, ℕ, zero, suc, ◌+◌, ◌<◌, List, [], ◌∷◌, ◌++◌, length, Err, sym, refl, ap, ◌∙◌, subst, ⊎_elim, suc-add, zero-add, arith}
 use Rattle.std.proofs.lemmas.List.{append_assoc, append-nil, length-append, length-map}
 use Rattle.std.proofs.lemmas.Bool.{cases_eq}
-use Rattle.fault.specs.Refusals.{Refusal}
+use Rattle.refusal.specs.Refusals.{Refusal}
 use Rattle.triple.specs.Stores.{Lists, total}
 use Rattle.shapes.specs.Expr.{Schema}
 use Rattle.ledger.specs.Ledger.{Ledger}

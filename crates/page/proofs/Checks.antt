@@ -2,7 +2,7 @@
 use Rattle.std.proofs.Common.{◌≡◌, ℕ, suc, ◌+◌, ◌*◌, ◌/◌, ◌%◌, ◌<◌, ◌≤◌, Bool, true, false, cond, not, eqb, ltb, List, [], ◌∷◌, length, get_or, take, drop, Some, None, Ok, Err, sum, Option, Result, sym, refl, ap, ◌∙◌, subst, arith}
 use Rattle.std.proofs.lemmas.List.{length-take-le, length-drop, at_drop_more}
 use Rattle.std.proofs.lemmas.Bool.{lt-ltb, le-ltb, eq-eqb, ne_eqb}
-use Rattle.fault.specs.declared.Layer.TheVariants.{Page}
+use Rattle.refusal.specs.declared.Layer.TheVariants.{Page}
 use Rattle.page.specs.Faults.{Told, nothing, node}
 use Rattle.page.specs.Loading.{wide, fan_refusal, page_refusal, answered, count_of, fan_bytes}
 

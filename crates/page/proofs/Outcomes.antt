@@ -1,8 +1,8 @@
 -- From what the parts of a load do to what a load does. Assumes nothing.
 use Rattle.std.proofs.Common.{◌≡◌, ℕ, ◌+◌, ◌-◌, ◌*◌, ◌<◌, ◌≤◌, List, length, take, drop, Some, None, Ok, Err, sum, Result, sym, refl, ap, ◌∙◌, subst, zero-add, arith}
 use Rattle.std.proofs.lemmas.List.{length-take-le, length-drop, take_all, take_rest}
-use Rattle.fault.specs.declared.Layer.TheVariants.{Page}
-use Rattle.fault.specs.Refusals.{Refusal}
+use Rattle.refusal.specs.declared.Layer.TheVariants.{Page}
+use Rattle.refusal.specs.Refusals.{Refusal}
 use Rattle.triple.specs.Stores.{Lists, total}
 use Rattle.ledger.specs.Ledger.{Ledger}
 use Rattle.validate.specs.Faults as validator

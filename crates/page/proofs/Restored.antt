@@ -3,7 +3,7 @@ use Rattle.std.proofs.Common.{◌≡◌, ℕ, zero, suc, ◌+◌, ◌-◌, ◌*�
 use Rattle.std.proofs.lemmas.List.{append-nil, append_assoc, length-append, length-map, length_push, take_at, drop_at, same_from_push}
 use Rattle.std.proofs.lemmas.List.Sums.{sum_by_push}
 use Rattle.std.proofs.lemmas.Bool.{cases_eq, cases_lt, cases_Bool, and_parts, or_parts, ltb-true, lt-ltb, le-ltb, lt-leb, eq-eqb, ne_eqb, not-true, both_ways}
-use Rattle.fault.specs.Refusals.{Refusal}
+use Rattle.refusal.specs.Refusals.{Refusal}
 use Rattle.triple.specs.Arcs.{Arc, same, has, distinct, inside}
 use Rattle.triple.specs.Stores.{Lists, present, total, Lawful, is}
 use Rattle.triple.proofs.Totals.{total_same, total_more}

@@ -4,8 +4,8 @@
 --     code f     the layer, the number and the place of the fault f
 --     told r     an answer, with its fault so told
 use Rattle.std.specs.Prelude.{ℕ, Ok, Err, Result}
-use Rattle.fault.specs.declared.Layer.TheVariants.{Page}
-use Rattle.fault.specs.Refusals.{Refusal}
+use Rattle.refusal.specs.declared.Layer.TheVariants.{Page}
+use Rattle.refusal.specs.Refusals.{Refusal}
 use Rattle.validate.specs.Faults as validator
 use Rattle.page.specs.declared.fault.PageFault.{PageFault}
 use Rattle.page.specs.declared.fault.PageFault.TheVariants.{Short, OtherCount, Fan, Length, Add, SmallBuffer}

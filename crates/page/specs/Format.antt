@@ -6,7 +6,7 @@
 --     over buffer bytes         the buffer once the bytes are written at its start; later bytes stay
 --     save_answer, save-after   the answer of a save and the buffer after it; a buffer that is too short stays as it is
 use Rattle.std.specs.Prelude.{ℕ, zero, suc, ◌/◌, ◌%◌, cond, List, [], ◌∷◌, ◌++◌, map, length, drop, Ok, Err, Result, nat_lt}
-use Rattle.fault.specs.declared.Layer.TheVariants.{Page}
+use Rattle.refusal.specs.declared.Layer.TheVariants.{Page}
 use Rattle.triple.specs.Arcs.{Arc}
 use Rattle.triple.specs.Stores.{Lists}
 use Rattle.page.specs.Faults.{Told, nothing}

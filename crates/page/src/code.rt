@@ -3,7 +3,7 @@ ghost use Rattle.std.specs.Prelude.{◌≡◌};
 ghost use Rattle.page.specs.Faults.{code};
 
 use crate::fault::PageFault;
-use fault::Layer;
+use refusal::Layer;
 
 impl PageFault {
     pub fn number(&self) -> u8

@@ -2,8 +2,8 @@
 use crate::format::Outcome;
 use crate::loads::{load_fresh, t};
 use chain::ChainStore;
-use fault::Layer;
 use model::Facts;
+use refusal::Layer;
 use rows::{Row, RowStore};
 use std::alloc::{AllocError, Global};
 use std::process::Abort;

@@ -1,9 +1,9 @@
 // A load beside the adds that it counts as, made on a plain book.
 use crate::format::{Outcome, entries, refusal, told};
 use draft::{Draft, PropertySet, ShapeRow, TripleRow};
-use fault::Layer;
 use model::{Book, Facts, same_held, same_triples};
 use page::load;
+use refusal::Layer;
 use replay::Answer;
 use schema::Schema;
 use std::alloc::{AllocError, Global};

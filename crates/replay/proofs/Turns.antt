@@ -4,7 +4,7 @@ use borrow.Rule.Slice.PartMut.{put_mid}
 use Rattle.std.proofs.lemmas.List.{append_assoc, append-nil, length-take-le, length-drop, take-append-drop, take_more_set, drop_more, drop-drop, drop_all}
 use Rattle.std.proofs.lemmas.Slice.{take-put_mid, drop-put_mid}
 use Rattle.std.proofs.lemmas.Bool.{and_parts, leb-true}
-use Rattle.fault.specs.Refusals.{Refusal}
+use Rattle.refusal.specs.Refusals.{Refusal}
 use Rattle.shapes.specs.Expr.{Schema}
 use Rattle.ledger.specs.Ledger.{Ledger}
 use Rattle.ledger.specs.Sound.{Sound}

@@ -8,7 +8,7 @@
 --                        the calls in their order do so, each lent the bytes after those of the calls before; later bytes stay
 --     Best S G σ         for each stratum the typing up to it is correct, and has every correct typing that agrees with it on the labels below
 use Rattle.std.specs.Prelude.{◌≡◌, ℕ, suc, ◌+◌, Bool, List, [], ◌∷◌, ◌++◌, length, take, Ok, Err, Option, Result}
-use Rattle.fault.specs.Refusals.{Refusal}
+use Rattle.refusal.specs.Refusals.{Refusal}
 use Rattle.triple.specs.declared.store.Triple.{Triple}
 use Rattle.shapes.specs.Expr.{Schema}
 use Rattle.shapes.specs.Typing.{Graph, Typing, In, Candidate, UpTo}

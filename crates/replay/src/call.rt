@@ -2,7 +2,7 @@
 ghost use Rattle.std.specs.Prelude.{◌≡◌};
 ghost use Rattle.replay.specs.Runs.{proposed};
 
-use fault::Layer;
+use refusal::Layer;
 use triple::Triple;
 
 // The first `given` of the strata are proposed, all of them if it is more than there are; the table has `room` bytes.

@@ -2,8 +2,8 @@
 --     code f       the layer and the number of the fault f
 --     refusal r    how the answer r of a put or a take refuses, if it does
 use Rattle.std.specs.Prelude.{ℕ, Some, None, Ok, Err, Option, Result}
-use Rattle.fault.specs.declared.Layer.TheVariants.{Store}
-use Rattle.fault.specs.Refusals.{Refusal}
+use Rattle.refusal.specs.declared.Layer.TheVariants.{Store}
+use Rattle.refusal.specs.Refusals.{Refusal}
 use Rattle.triple.specs.declared.fault.StoreFault.{StoreFault}
 use Rattle.triple.specs.declared.fault.StoreFault.TheVariants.{NoSubject, NoObject, Present, FullNode, FullStore, Absent}
 

@@ -6,8 +6,8 @@
 --     put_refusal            how a put refuses, if it does; take-refusal, how a take does
 --     Added, Removed         the triples after an accepted put, and after an accepted take
 use Rattle.std.specs.Prelude.{◌≡◌, ℕ, zero, suc, ◌+◌, ◌≤◌, Bool, true, not, ◌&&◌, ◌||◌, List, [], ◌∷◌, length, Option, ◌==◌, nat_le}
-use Rattle.fault.specs.declared.Layer.TheVariants.{Store}
-use Rattle.fault.specs.Refusals.{Refusal, first}
+use Rattle.refusal.specs.declared.Layer.TheVariants.{Store}
+use Rattle.refusal.specs.Refusals.{Refusal, first}
 use Rattle.triple.specs.Arcs.{Arc, same, has, distinct, inside}
 
 abbrev pub Lists : Type 0

@@ -3,7 +3,7 @@ ghost use Rattle.std.specs.Prelude.{◌≡◌};
 ghost use Rattle.triple.specs.Faults.{code};
 
 use crate::fault::StoreFault;
-use fault::Layer;
+use refusal::Layer;
 
 impl StoreFault {
     pub fn number(&self) -> u8

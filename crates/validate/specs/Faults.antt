@@ -2,8 +2,8 @@
 --     code f     the layer and the number of the fault f; a store's fault keeps its own
 --     told r     an answer, with its fault as layer and number
 use Rattle.std.specs.Prelude.{Ok, Err, Result}
-use Rattle.fault.specs.declared.Layer.TheVariants.{Validator}
-use Rattle.fault.specs.Refusals.{Refusal}
+use Rattle.refusal.specs.declared.Layer.TheVariants.{Validator}
+use Rattle.refusal.specs.Refusals.{Refusal}
 use Rattle.triple.specs.Faults as store
 use Rattle.validate.specs.declared.fault.ValidatorFault.{ValidatorFault}
 use Rattle.validate.specs.declared.fault.ValidatorFault.TheVariants.{NoSubject, NoObject, Literal, NoNode, NoLabel, FewStrata, NoStratification, ShortTable, Store}

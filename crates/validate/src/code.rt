@@ -3,7 +3,7 @@ ghost use Rattle.std.specs.Prelude.{◌≡◌};
 ghost use Rattle.validate.specs.Faults.{code};
 
 use crate::fault::ValidatorFault;
-use fault::Layer;
+use refusal::Layer;
 
 impl ValidatorFault {
     pub fn number(&self) -> u8

@@ -1,8 +1,8 @@
 -- What the calls refuse, from the tests that they make. Assumes nothing.
 use Rattle.std.proofs.Common.{◌≡◌, ℕ, ◌<◌, ◌≤◌, true, false, leb, Some, None, Ok, Err, Result, refl, ap, ◌∙◌, ⊎_elim, arith}
 use Rattle.std.proofs.lemmas.Bool.{le-leb, lt-leb, leb-false, cases_Bool}
-use Rattle.fault.specs.declared.Layer.TheVariants.{Validator}
-use Rattle.fault.specs.declared.Layer.TheVariants.{Store as Store-layer}
+use Rattle.refusal.specs.declared.Layer.TheVariants.{Validator}
+use Rattle.refusal.specs.declared.Layer.TheVariants.{Store as Store-layer}
 use Rattle.triple.specs.Faults as store
 use Rattle.triple.specs.Stores.{Lists, put_refusal, take_refusal}
 use Rattle.triple.specs.declared.fault.StoreFault.{StoreFault}

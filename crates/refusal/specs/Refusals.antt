@@ -3,7 +3,7 @@
 --     or_else a b    a, or b where a is nothing
 --     first rules    of a list of rules, each a test with what it refuses by, the first whose test holds; nothing where none does
 use Rattle.std.specs.Prelude.{ℕ, Bool, cond, List, [], ◌∷◌, Some, None, Option}
-use Rattle.fault.specs.declared.Layer.{Layer}
+use Rattle.refusal.specs.declared.Layer.{Layer}
 
 abbrev pub Refusal : Type 0
 Refusal = Layer × ℕ
