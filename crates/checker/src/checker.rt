@@ -4,7 +4,6 @@ ghost use Rattle.node_check.specs.Answers.{graph as graph_of};
 ghost use Rattle.draft.specs.Tables.{schema_of};
 ghost use Rattle.tables.specs.Held.{held};
 
-use backward::Backward;
 use node_check::{Scratch, satisfied};
 use refine::NodeCheck;
 use tables::LawfulTables;
@@ -46,8 +45,14 @@ impl<'a, S: Store, V: ValueTest> NodeCheck for Checker<'a, S, V> {
         )
     }
 
-    fn backward(&self) -> Backward {
-        self.store.lawful();
-        Backward::of(self.store)
+    fn leads_to(&self, node: u16, object: u16) -> bool {
+        for place in 0..self.store.fan(node) {
+            if let Some((_, found)) = self.store.arc(node, place) {
+                if found == object {
+                    return true;
+                }
+            }
+        }
+        false
     }
 }

@@ -10,5 +10,5 @@ mod typing;
 mod words;
 
 pub use arcs::NodeArcs;
-pub use rows::met_rows;
+pub use rows::{met_asked, met_rows};
 pub use scratch::Scratch;

@@ -61,7 +61,7 @@ fn find_masks(
 
 // Flags triple rows that all the arcs together meet: every asked one, and no row that they do not meet.
 // A row that no asked row leads to is passed over.
-pub fn met_rows(
+pub fn met_asked(
     tables: &LawfulTables,
     arcs: &NodeArcs,
     typing: &[u8],
@@ -84,4 +84,17 @@ pub fn met_rows(
         }
     }
     met
+}
+
+// Which triple rows all the arcs together meet.
+pub fn met_rows(
+    tables: &LawfulTables,
+    arcs: &NodeArcs,
+    typing: &[u8],
+    scratch: &mut Scratch,
+) -> [bool; 128]
+    ensures { (p : ℕ) → On result p ↔ Meets (held tables.now) typing.now (arcs_of arcs.now) p }
+{
+    tables.lawful();
+    met_asked(tables, arcs, typing, &[true; 128], scratch)
 }

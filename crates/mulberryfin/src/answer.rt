@@ -1,6 +1,4 @@
 // What a command answers, and how it is printed.
-use crate::call_answer::CallAnswer;
-use crate::pages::PageAnswer;
 use draft::SchemaFault;
 use std::fmt;
 use triple::StoreFault;
@@ -27,8 +25,6 @@ pub enum Answer {
     Truth(bool),
     Typed(usize),
     Pairs(Vec<(u16, u8)>),
-    Call(CallAnswer),
-    Page(PageAnswer),
 }
 
 impl fmt::Display for Answer {
@@ -43,10 +39,18 @@ impl fmt::Display for Answer {
             Answer::ShapeRow(count) => write_number(f, "shape row", *count),
             Answer::Label(count) => write_number(f, "label", *count),
             Answer::Schema(labels) => write!(f, "accepted, {labels} labels"),
-            Answer::SchemaRefused(fault) => write_schema_fault(f, *fault),
+            Answer::SchemaRefused(fault) => {
+                let number = fault.number();
+                let layer = fault.layer();
+                write!(f, "refused with {number} by the {layer}: {fault}")
+            }
             Answer::Strata(bytes, labels) => write_strata(f, bytes, *labels),
             Answer::Accepted => write!(f, "accepted"),
-            Answer::Refused(fault) => write_store_fault(f, *fault),
+            Answer::Refused(fault) => {
+                let number = fault.number();
+                let layer = fault.layer();
+                write!(f, "refused with {number} by the {layer}: {fault}")
+            }
             Answer::Fan(fan) => write!(f, "{fan}"),
             Answer::Arc(Some((property, object))) => write!(f, "({property}, {object})"),
             Answer::Arc(None) => write!(f, "no arc"),
@@ -56,22 +60,8 @@ impl fmt::Display for Answer {
             Answer::Truth(false) => write!(f, "no"),
             Answer::Typed(count) => write!(f, "{count} pairs"),
             Answer::Pairs(pairs) => write_pairs(pairs.as_slice(), f),
-            Answer::Call(answer) => write!(f, "{answer}"),
-            Answer::Page(answer) => write!(f, "{answer}"),
         }
     }
-}
-
-fn write_schema_fault<W: fmt::Write>(f: &mut fmt::Formatter<W>, fault: SchemaFault) -> fmt::Result {
-    let number = fault.number();
-    let layer = fault.layer();
-    write!(f, "refused with {number} by the {layer}: {fault}")
-}
-
-fn write_store_fault<W: fmt::Write>(f: &mut fmt::Formatter<W>, fault: StoreFault) -> fmt::Result {
-    let number = fault.number();
-    let layer = fault.layer();
-    write!(f, "refused with {number} by the {layer}: {fault}")
 }
 
 // The number of the row that was added last, when there are `count`.

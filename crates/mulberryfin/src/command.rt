@@ -1,5 +1,4 @@
 // One line of a script, read into what it asks for.
-use crate::call_lines::{CallLine, read_call, read_sweep};
 use crate::draft_lines::{DraftLine, read_draft_line, read_set};
 use crate::expected::Expected;
 use std::str::{FromStr, SplitWhitespace};
@@ -7,16 +6,12 @@ use triple::Triple;
 use values::{TermKind, Test};
 
 #[derive(Clone, Copy)]
-pub enum Command<'a> {
-    House,
+pub enum Command {
     Store(StoreKind),
     Term(TermKind),
     Test(Test),
     Draft(DraftLine),
-    Edit(Edit),
-    Question(Question<'a>),
-    Call(CallLine),
-    Load(&'a str),
+    Call(Call),
 }
 
 // Each kind with its number of nodes, and the row store with its number of rows.
@@ -27,14 +22,9 @@ pub enum StoreKind {
 }
 
 #[derive(Clone, Copy)]
-pub enum Edit {
+pub enum Call {
     Put(Triple),
     Take(Triple),
-}
-
-// What changes neither the store nor a verdict.
-#[derive(Clone, Copy)]
-pub enum Question<'a> {
     Fan(u16),
     Arc(u16, u8),
     Arcs(u16),
@@ -45,18 +35,6 @@ pub enum Question<'a> {
     Untyped,
     Satisfies(u16, u8),
     Satisfied,
-    Save(Option<&'a str>),
-    List(&'a str),
-}
-
-impl<'a> Command<'a> {
-    pub fn needs_store(&self) -> bool {
-        matches!(self, Command::Edit(_) | Command::Question(_)) || self.needs_validator()
-    }
-
-    pub fn needs_validator(&self) -> bool {
-        matches!(self, Command::Call(_) | Command::Load(_))
-    }
 }
 
 // The next word as a number.
@@ -84,7 +62,7 @@ fn read_value(words: &mut SplitWhitespace) -> Result<i32, Expected> {
     read_number(words, Expected::Value)
 }
 
-pub fn read_triple(words: &mut SplitWhitespace) -> Result<Triple, Expected> {
+fn read_triple(words: &mut SplitWhitespace) -> Result<Triple, Expected> {
     let subject = read_node(words)?;
     let property = read_number(words, Expected::Property)?;
     let object = read_node(words)?;
@@ -128,85 +106,50 @@ fn read_test(words: &mut SplitWhitespace) -> Result<Test, Expected> {
     }
 }
 
-fn read_file<'a>(words: &mut SplitWhitespace<'a>) -> Result<&'a str, Expected> {
-    match words.next() {
-        Some(name) => Ok(name),
-        None => Err(Expected::File),
-    }
-}
-
-fn read_edit(name: &str, words: &mut SplitWhitespace) -> Result<Edit, Expected> {
-    let triple = read_triple(words)?;
-    if name == "put" {
-        Ok(Edit::Put(triple))
-    } else {
-        Ok(Edit::Take(triple))
-    }
-}
-
-fn read_question<'a>(
-    name: &str,
-    words: &mut SplitWhitespace<'a>,
-) -> Result<Question<'a>, Expected> {
+fn read_call(name: &str, words: &mut SplitWhitespace) -> Result<Call, Expected> {
     match name {
-        "fan" => Ok(Question::Fan(read_node(words)?)),
-        "arc" => Ok(Question::Arc(read_node(words)?, read_number(words, Expected::Place)?)),
-        "arcs" => Ok(Question::Arcs(read_node(words)?)),
-        "total" => Ok(Question::Total),
-        "literal" => Ok(Question::Literal(read_node(words)?)),
-        "holds" => Ok(Question::Holds(
-            read_node(words)?,
-            read_number(words, Expected::TestNumber)?,
-        )),
-        "save" => Ok(Question::Save(words.next())),
-        "list" => Ok(Question::List(read_file(words)?)),
-        _ => read_typing_question(name, words),
+        "put" => Ok(Call::Put(read_triple(words)?)),
+        "take" => Ok(Call::Take(read_triple(words)?)),
+        "fan" => Ok(Call::Fan(read_node(words)?)),
+        "arc" => Ok(Call::Arc(read_node(words)?, read_number(words, Expected::Place)?)),
+        "arcs" => Ok(Call::Arcs(read_node(words)?)),
+        "total" => Ok(Call::Total),
+        "literal" => Ok(Call::Literal(read_node(words)?)),
+        "holds" => Ok(Call::Holds(read_node(words)?, read_number(words, Expected::TestNumber)?)),
+        _ => read_typing_call(name, words),
     }
 }
 
-fn read_typing_question<'a>(
-    name: &str,
-    words: &mut SplitWhitespace<'a>,
-) -> Result<Question<'a>, Expected> {
+fn read_typing_call(name: &str, words: &mut SplitWhitespace) -> Result<Call, Expected> {
     match name {
-        "typed" => Ok(Question::Typed(read_node(words)?, read_number(words, Expected::Label)?)),
-        "untyped" => Ok(Question::Untyped),
-        "satisfies" => Ok(Question::Satisfies(
-            read_node(words)?,
-            read_number(words, Expected::Label)?,
-        )),
-        "satisfied" => Ok(Question::Satisfied),
+        "typed" => Ok(Call::Typed(read_node(words)?, read_number(words, Expected::Label)?)),
+        "untyped" => Ok(Call::Untyped),
+        "satisfies" => Ok(Call::Satisfies(read_node(words)?, read_number(words, Expected::Label)?)),
+        "satisfied" => Ok(Call::Satisfied),
         _ => Err(Expected::Command),
     }
 }
 
-fn read_command<'a>(name: &str, words: &mut SplitWhitespace<'a>) -> Result<Command<'a>, Expected> {
+fn read_command(name: &str, words: &mut SplitWhitespace) -> Result<Command, Expected> {
     match name {
-        "house" => Ok(Command::House),
         "store" => Ok(Command::Store(read_store(words)?)),
         "term" => Ok(Command::Term(read_term(words)?)),
         "test" => Ok(Command::Test(read_test(words)?)),
         "draft" | "triple" | "shape" | "label" | "accept" | "strata" => Ok(Command::Draft(
             read_draft_line(name, words)?,
         )),
-        "put" | "take" => Ok(Command::Edit(read_edit(name, words)?)),
-        "add" | "withdraw" | "look" | "held" => Ok(Command::Call(read_call(name, words)?)),
-        "load" => Ok(Command::Load(read_file(words)?)),
-        _ => Ok(Command::Question(read_question(name, words)?)),
+        _ => Ok(Command::Call(read_call(name, words)?)),
     }
 }
 
 // What the line asks for; nothing where it is blank. The line is without its comment.
-pub fn read(line: &str) -> Result<Option<Command<'_>>, Expected> {
+pub fn read(line: &str) -> Result<Option<Command>, Expected> {
     let mut words = line.split_whitespace();
     let Some(name) = words.next() else {
         return Ok(None);
     };
     if name == "set" {
         return Ok(Some(Command::Draft(DraftLine::Set(read_set(words)?))));
-    }
-    if name == "sweep" {
-        return Ok(Some(Command::Call(CallLine::Sweep(read_sweep(words)?))));
     }
     let command = read_command(name, &mut words)?;
     match words.next() {

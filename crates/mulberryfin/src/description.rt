@@ -26,14 +26,14 @@ impl Description {
         }
     }
 
-    // Adds what the command describes; all else comes too early.
+    // Adds what the command describes; a call comes too early.
     pub fn add(&mut self, command: Command) -> Result<Answer, Trouble> {
         match command {
             Command::Store(store) => self.set_store(store),
             Command::Term(kind) => self.add_term(kind),
             Command::Test(test) => self.add_test(test),
             Command::Draft(line) => self.session.drafting.perform(line),
-            _ => Err(Trouble::Unreadable(Expected::Store)),
+            Command::Call(_) => Err(Trouble::Unreadable(Expected::Store)),
         }
     }
 

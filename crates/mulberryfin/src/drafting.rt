@@ -30,11 +30,6 @@ impl Drafting {
         &self.schema
     }
 
-    // The schema accepted last; a fresh place, with no labels, is left.
-    pub fn take_schema(&mut self) -> Schema {
-        std::mem::replace(&mut self.schema, Schema::new())
-    }
-
     pub fn perform(&mut self, line: DraftLine) -> Result<Answer, Trouble> {
         match line {
             DraftLine::New => Ok(self.clear()),

@@ -25,17 +25,13 @@ pub enum Expected {
     Store,
     OneStore,
     Call,
-    ValidatorEdit,
-    Strata,
-    Room,
-    File,
 }
 
 impl Expected {
     pub fn words(&self) -> &'static str {
         match self {
             Expected::Command =>
-                "a command: store, term, test, draft, set, triple, shape, label, accept, strata, put, take, fan, arc, arcs, total, literal, holds, typed, untyped, satisfies, satisfied, add, withdraw, look, held, sweep, load, save, list or house",
+                "a command: store, term, test, draft, set, triple, shape, label, accept, strata, put, take, fan, arc, arcs, total, literal, holds, typed, untyped, satisfies or satisfied",
             Expected::StoreKind => "a kind of store: chain NODES or rows NODES ROWS",
             Expected::Node => "a node from 0 to 65535",
             Expected::NodeCount => "a number of nodes from 0 to 65535",
@@ -59,10 +55,6 @@ impl Expected {
             Expected::Store => "a line that begins with store first",
             Expected::OneStore => "one store only",
             Expected::Call => "a call, since the house is described before the first call",
-            Expected::ValidatorEdit => "add or withdraw, since the validator has the store",
-            Expected::Strata => "own, or strata from 0 to 255",
-            Expected::Room => "a number of bytes from 0 to 65535",
-            Expected::File => "the name of a file",
         }
     }
 }

@@ -2,23 +2,14 @@
 #![tactic(auto)]
 
 mod answer;
-mod batch;
-mod call_answer;
-mod call_lines;
+mod calls;
 mod command;
-mod day;
 mod description;
 mod draft_lines;
 mod drafting;
 mod expected;
-mod lines;
-mod listing;
-mod pages;
-mod questions;
 mod script;
 mod session;
-mod tally;
-mod telling;
 mod trouble;
 
 use script::run;

@@ -1,41 +1,59 @@
-// A script, house by house: first the description, then the store's calls, then the day.
+// A script, line by line: first the house, then the calls.
 use crate::answer::Answer;
-use crate::command::{Command, Edit, StoreKind};
-use crate::day::run_day;
+use crate::calls::{answer, sorted_arcs};
+use crate::command::{Command, StoreKind, read};
 use crate::description::Description;
 use crate::expected::Expected;
-use crate::lines::{Line, read_line};
-use crate::questions::{View, answer};
 use crate::session::Session;
-use crate::telling::{list, tell};
 use crate::trouble::Trouble;
 use chain::ChainStore;
 use rows::{Row, RowStore};
-use triple::{Store, StoreFault};
+use std::alloc::AllocError;
+use triple::Store;
 use values::{TermTable, ValueTest};
 
-// Reads the house, and answers how many lines come before the first that needs its store.
-fn describe(rt: &HostRuntime, house: &mut Description, lines: &[Line]) -> anyhow::Result<usize> {
+// The line without its comment, which begins with #, and without the blanks around it.
+fn uncommented(line: &str) -> &str {
+    match line.split_once('#') {
+        Some((text, _)) => text.trim(),
+        None => line.trim(),
+    }
+}
+
+// Prints what a line answered, or why it was not carried out.
+fn tell(
+    rt: &HostRuntime,
+    index: usize,
+    text: &str,
+    res: Result<Answer, Trouble>,
+) -> anyhow::Result<()> {
+    match res {
+        Ok(answer) => println!(rt; "{text}: {answer}")?,
+        Err(Trouble::Unreadable(expected)) => {
+            let number = index.saturating_add(1);
+            println!(rt; "line {number}: {text}: expected {expected}; nothing was done")?;
+        }
+        Err(Trouble::NoMemory) => return Err(AllocError.into()),
+    }
+    Ok(())
+}
+
+// Reads the house, and answers how many lines come before the first call.
+fn describe(rt: &HostRuntime, house: &mut Description, lines: &[&str]) -> anyhow::Result<usize> {
     for (index, line) in lines.iter().enumerate() {
-        let result = match line.command {
-            Ok(command) if house.store.is_some() && command.needs_store() => return Ok(index),
-            Ok(command) => house.add(command),
+        let text = uncommented(line);
+        let result = match read(text) {
+            Ok(None) => continue,
+            Ok(Some(Command::Call(_))) if house.store.is_some() => return Ok(index),
+            Ok(Some(command)) => house.add(command),
             Err(expected) => Err(Trouble::Unreadable(expected)),
         };
-        tell(rt, *line, result)?;
+        tell(rt, index, text, result)?;
     }
     Ok(lines.len())
 }
 
-fn edited(res: Result<(), StoreFault>) -> Answer {
-    match res {
-        Ok(()) => Answer::Accepted,
-        Err(fault) => Answer::Refused(fault),
-    }
-}
-
 fn carry_out<S: Store, V: ValueTest>(
-    rt: &HostRuntime,
     store: &mut S,
     values: &V,
     session: &mut Session,
@@ -43,87 +61,71 @@ fn carry_out<S: Store, V: ValueTest>(
 ) -> Result<Answer, Trouble> {
     match command {
         Command::Draft(line) => session.drafting.perform(line),
-        Command::Edit(Edit::Put(triple)) => Ok(edited(store.put(triple))),
-        Command::Edit(Edit::Take(triple)) => Ok(edited(store.take(triple))),
-        Command::Question(question) => {
-            let view = View {
-                schema: session.drafting.schema(),
-                store,
-                values,
-            };
-            answer(rt, &view, &mut session.typing, question)
-        }
+        Command::Call(call) => Ok(answer(session, store, values, call)?),
         _ => Err(Trouble::Unreadable(Expected::Call)),
     }
 }
 
-// Carries out the lines from `first` on, and answers how many come before the first that needs a validator.
-fn run_store<S: Store, V: ValueTest>(
+// Carries out the calls from the line `first` on.
+fn run_calls<S: Store, V: ValueTest>(
     rt: &HostRuntime,
     store: &mut S,
     values: &V,
     session: &mut Session,
-    lines: &[Line],
-    first: usize,
-) -> anyhow::Result<usize> {
-    for (index, line) in lines.iter().enumerate().skip(first) {
-        let result = match line.command {
-            Ok(command) if command.needs_validator() => return Ok(index),
-            Ok(command) => carry_out(rt, store, values, session, command),
-            Err(expected) => Err(Trouble::Unreadable(expected)),
-        };
-        tell(rt, *line, result)?;
-    }
-    Ok(lines.len())
-}
-
-fn run_over<S: Store + Drop>(
-    rt: &HostRuntime,
-    store: S,
-    house: &mut Description,
-    lines: &[Line],
+    lines: &[&str],
     first: usize,
 ) -> anyhow::Result<()> {
-    let mut store = store;
-    let values = TermTable::new(house.terms.as_slice(), house.tests.as_slice());
-    let next = run_store(rt, &mut store, &values, &mut house.session, lines, first)?;
-    if next < lines.len() {
-        run_day(rt, store, values, &mut house.session, lines, next)
-    } else {
-        list(rt, &store)
+    for (index, line) in lines.iter().enumerate().skip(first) {
+        let text = uncommented(line);
+        let result = match read(text) {
+            Ok(None) => continue,
+            Ok(Some(command)) => carry_out(store, values, session, command),
+            Err(expected) => Err(Trouble::Unreadable(expected)),
+        };
+        tell(rt, index, text, result)?;
     }
+    Ok(())
 }
 
-fn run_house(rt: &HostRuntime, lines: &[Line]) -> anyhow::Result<()> {
-    let heap = rt.alloc();
-    let mut house = Description::new(heap);
-    let first = describe(rt, &mut house, lines)?;
-    match house.store.unwrap_or(StoreKind::Chain(0)) {
-        StoreKind::Chain(nodes) => {
-            let store = ChainStore::new(nodes);
-            run_over(rt, store, &mut house, lines, first)
-        }
-        StoreKind::Rows(nodes, count) => {
-            let mut rows = vec![in heap; Row::FREE; usize::from(count)]?;
-            let store = RowStore::new(rows.as_mut_slice(), nodes);
-            run_over(rt, store, &mut house, lines, first)
-        }
+// The whole store, node by node.
+fn list<S: Store>(rt: &HostRuntime, store: &S) -> anyhow::Result<()> {
+    let nodes = store.node_count();
+    let total = store.total();
+    let capacity = store.capacity();
+    println!(rt; "store: {nodes} nodes, {total} of {capacity} triples")?;
+    for node in 0..nodes {
+        let arcs = Answer::Arcs(sorted_arcs(rt.alloc(), store, node)?);
+        println!(rt; "node {node}: {arcs}")?;
     }
+    Ok(())
+}
+
+fn run_over<S: Store>(
+    rt: &HostRuntime,
+    store: &mut S,
+    house: &mut Description,
+    lines: &[&str],
+    first: usize,
+) -> anyhow::Result<()> {
+    let values = TermTable::new(house.terms.as_slice(), house.tests.as_slice());
+    run_calls(rt, store, &values, &mut house.session, lines, first)?;
+    list(rt, store)
 }
 
 pub fn run(rt: &HostRuntime, text: &str) -> anyhow::Result<()> {
-    let mut house = Vec::new(rt.alloc());
-    for (index, line) in text.lines().enumerate() {
-        let Some(line) = read_line(index, line) else {
-            continue;
-        };
-        if let Ok(Command::House) = line.command {
-            run_house(rt, house.as_slice())?;
-            println!(rt; "house: a new house")?;
-            house.clear();
-        } else {
-            house.push(line)?;
+    let heap = rt.alloc();
+    let lines: Vec<&str> = text.lines().collect(heap)?;
+    let mut house = Description::new(heap);
+    let first = describe(rt, &mut house, lines.as_slice())?;
+    match house.store.unwrap_or(StoreKind::Chain(0)) {
+        StoreKind::Chain(nodes) => {
+            let mut store = ChainStore::new(nodes);
+            run_over(rt, &mut store, &mut house, lines.as_slice(), first)
+        }
+        StoreKind::Rows(nodes, count) => {
+            let mut rows = vec![in heap; Row::FREE; usize::from(count)]?;
+            let mut store = RowStore::new(rows.as_mut_slice(), nodes);
+            run_over(rt, &mut store, &mut house, lines.as_slice(), first)
         }
     }
-    run_house(rt, house.as_slice())
 }

@@ -6,8 +6,6 @@ use std::alloc::{AllocError, AllocFailed};
 pub enum Trouble {
     Unreadable(Expected),
     NoMemory,
-    FileNotRead,
-    FileNotWritten,
 }
 
 impl From<Expected> for Trouble {

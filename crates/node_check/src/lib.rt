@@ -11,7 +11,7 @@ mod shape;
 
 use asked::asked_rows;
 pub use hoods::Scratch;
-use hoods::{NodeArcs, met_rows};
+use hoods::{NodeArcs, met_asked};
 use shape::shape_rows;
 use tables::LawfulTables;
 use triple::Store;
@@ -36,7 +36,7 @@ fn answers_of<S: Store, V: ValueTest>(
     tables.lawful();
     let arcs = NodeArcs::of(store, node);
     let asked = asked_rows(tables, wanted);
-    let met = met_rows(tables, &arcs, typing, &asked, scratch);
+    let met = met_asked(tables, &arcs, typing, &asked, scratch);
     let holds = shape_rows(tables, values, node, &met);
     for (label, row) in tables.definitions().iter().enumerate() {
         if wanted[label] {

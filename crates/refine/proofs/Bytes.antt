@@ -89,3 +89,32 @@ module _ (strata wanted : List ℕ) (i start : ℕ) (found : List Bool) (x : Lis
       left_at l h (no g) a b d =
           let e : l ≡ m = omega arith in
           absurd (omega (arith, sym (ap (λ l. get_or (set y (start + m) 0) (start + l) 0) e) ∙ d, gone))
+
+module _ (L : ℕ → Type 0) (x : List Bool) where
+  pub marked_set : (m : ℕ) (y : List Bool) → Marked L m x y → m < length y → L m → Marked L (m + 1) x (set y m true)
+  marked_set m y c long here =
+      record {
+        before = λ n h. at n (ℕ_discrete n m) h;
+        past = λ n h. get_or-set_other y m n true false (λ e. omega arith) ∙ c.past n (omega arith);
+      }
+    where
+      at : (n : ℕ) → Dec (n ≡ m) → n < m + 1 → Decides (get_or (set y m true) n false) ((get_or x n false ≡ true) ⊎ L n)
+      at n (yes e) h =
+          (λ t. inr (subst L (sym e) here), λ t. ap (λ n. get_or (set y m true) n false) e ∙ get_or-set_same y m true false long)
+      at n (no ne) h =
+          let d = c.before n (omega arith) in
+          let g = get_or-set_other y m n true false ne in
+          (λ t. d.0 (sym g ∙ t), λ t. g ∙ d.1 t)
+
+  pub marked_kept : (m : ℕ) (y : List Bool) → Marked L m x y → ¬ L m → Marked L (m + 1) x y
+  marked_kept m y c none = record { before = λ n h. at n h (dec_lt n m); past = λ n h. c.past n (omega arith) }
+    where
+      here : (get_or x m false ≡ true) ⊎ L m → get_or y m false ≡ true
+      here (inl t) = c.past m (omega arith) ∙ t
+      here (inr t) = absurd (none t)
+
+      at : (n : ℕ) → n < m + 1 → Dec (n < m) → Decides (get_or y n false) ((get_or x n false ≡ true) ⊎ L n)
+      at n h (yes g) = c.before n g
+      at n h (no g) =
+          let e : m ≡ n = omega arith in
+          subst (λ n. Decides (get_or y n false) ((get_or x n false ≡ true) ⊎ L n)) e (λ t. inl (sym (c.past m (omega arith)) ∙ t), here)

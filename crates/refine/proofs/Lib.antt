@@ -2,4 +2,3 @@ pub mod Bytes
 pub mod Places
 pub mod Steps
 pub mod Decisions
-pub mod Marks

@@ -1,4 +1,3 @@
 pub mod Tables
 pub mod Deciding
 pub mod Narrowing
-pub mod Turned

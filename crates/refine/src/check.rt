@@ -1,11 +1,9 @@
 // How one node is checked against all labels, for a graph and a schema.
-ghost use Rattle.std.specs.Prelude.{◌≡◌, ◌≤◌};
+ghost use Rattle.std.specs.Prelude.{◌≡◌, ℕ, ◌≤◌, Decides};
 ghost use Rattle.shapes.specs.Expr.{Schema};
+ghost use Rattle.shapes.specs.Lists.{Member};
 ghost use Rattle.shapes.specs.Typing.{Graph};
 ghost use Rattle.refine.specs.Tables.{Checked};
-ghost use Rattle.refine.specs.Turned.{Turned};
-
-use backward::Backward;
 
 pub trait NodeCheck {
     ghost schema: { Self → Schema };
@@ -25,7 +23,7 @@ pub trait NodeCheck {
         ensures value { Checked (schema self.old) (graph self.old) typing.now node result }
         ensures kept { (schema self.new ≡ schema self.old) × (graph self.new ≡ graph self.old) };
 
-    // The arcs backwards.
-    fn backward(&self) -> Backward
-        ensures { Turned (graph self.now) result };
+    // Whether the node has an arc to the object.
+    fn leads_to(&self, node: u16, object: u16) -> bool
+        ensures { Decides result ((p : ℕ) × Member (p, object) ((graph self.now).arcs node)) };
 }

@@ -1,13 +1,11 @@
 // Takes out of a table, at one stratum, the wanted pairs that are not satisfied, until all that are left are.
-ghost use Rattle.std.specs.Prelude.{◌≡◌, ℕ, ◌+◌, ◌<◌, ◌≤◌, true, false, ◌⊎◌, length, Decides, slice_index, slice_index_or};
-ghost use Rattle.backward.specs.Chains.{on, Sound};
+ghost use Rattle.std.specs.Prelude.{◌≡◌, ℕ, ◌+◌, ◌<◌, ◌≤◌, false, length, Decides, slice_index};
+ghost use Rattle.shapes.specs.Lists.{Member};
 ghost use Rattle.refine.specs.Tables.{has_label};
 ghost use Rattle.refine.specs.Deciding.{size as pairs};
-ghost use Rattle.refine.specs.Narrowing.{Narrowed, Stable, Visited, Passed, Cleared};
-ghost use Rattle.refine.specs.Turned.{Turned};
+ghost use Rattle.refine.specs.Narrowing.{Narrowed, Stable, Visited, Passed, Cleared, Marked};
 
 use crate::check::NodeCheck;
-use backward::Backward;
 
 const MAX_NODES: usize = 256;
 
@@ -79,24 +77,20 @@ fn clear_row(
 }
 
 // Marks every node that has an arc to the object.
-fn mark_leading(backward: &Backward, object: u16, marks: &mut [bool])
-    requires within { object < 256 }
-    requires sound { Sound backward.now.first backward.now.next backward.now.source backward.now.count }
-    requires marks_long { 256 ≤ length marks.old }
-    ensures { (n : ℕ) → Decides (slice_index_or marks.new n false) ((slice_index_or marks.old n false ≡ true) ⊎ on backward.now.first backward.now.next backward.now.source object n) }
+fn mark_leading<C: NodeCheck>(check: &C, object: u16, marks: &mut [bool])
+    requires { (C.NodeCheck.graph check.now).nodes ≤ length marks.old }
+    ensures { Marked (λ n. (p : ℕ) × Member (p, object) ((C.NodeCheck.graph check.now).arcs n)) (C.NodeCheck.graph check.now).nodes marks.old marks.new }
 {
-    let mut at = backward.first[object as usize];
-    while at > 0 {
-        let cell = (at - 1) as usize;
-        marks[backward.source[cell] as usize] = true;
-        at = backward.next[cell];
+    for node in 0..check.node_count() {
+        if check.leads_to(node, object) {
+            marks[node as usize] = true;
+        }
     }
 }
 
 // Checks one node and takes its mark away; where a byte is cleared, marks the nodes that lead to it.
 fn narrow_node<C: NodeCheck>(
     check: &mut C,
-    backward: &Backward,
     strata: &[u8],
     wanted: &[u8],
     stratum: u8,
@@ -105,12 +99,10 @@ fn narrow_node<C: NodeCheck>(
     typing: &mut [u8],
 ) -> bool
     requires node_bound { node < (C.NodeCheck.graph check.old).nodes }
-    requires few { (C.NodeCheck.graph check.old).nodes ≤ 256 }
-    requires turned { Turned (C.NodeCheck.graph check.old) backward.now }
     requires strata_long { (C.NodeCheck.schema check.old).labels ≤ length strata.now }
     requires wanted_long { pairs (C.NodeCheck.schema check.old) (C.NodeCheck.graph check.old) ≤ length wanted.now }
     requires typing_long { pairs (C.NodeCheck.schema check.old) (C.NodeCheck.graph check.old) ≤ length typing.old }
-    requires marks_long { 256 ≤ length marks.old }
+    requires marks_long { (C.NodeCheck.graph check.old).nodes ≤ length marks.old }
     ensures kept { (C.NodeCheck.schema check.new ≡ C.NodeCheck.schema check.old) × (C.NodeCheck.graph check.new ≡ C.NodeCheck.graph check.old) }
     ensures change { Visited (C.NodeCheck.schema check.old) (C.NodeCheck.graph check.old) strata.now wanted.now stratum result marks.old marks.new typing.old typing.new node }
 {
@@ -123,7 +115,7 @@ fn narrow_node<C: NodeCheck>(
     let found = check.satisfied(typing, node);
     let cleared = clear_row(labels, start, strata, wanted, stratum, &found, typing);
     if cleared {
-        mark_leading(backward, node, marks);
+        mark_leading(check, node, marks);
     }
     cleared
 }
@@ -131,27 +123,23 @@ fn narrow_node<C: NodeCheck>(
 // Checks every marked node once; says whether a byte was cleared.
 fn narrow_marked<C: NodeCheck>(
     check: &mut C,
-    backward: &Backward,
     strata: &[u8],
     wanted: &[u8],
     stratum: u8,
     marks: &mut [bool],
     typing: &mut [u8],
 ) -> bool
-    requires turned { Turned (C.NodeCheck.graph check.old) backward.now }
     requires strata_long { (C.NodeCheck.schema check.old).labels ≤ length strata.now }
     requires wanted_long { pairs (C.NodeCheck.schema check.old) (C.NodeCheck.graph check.old) ≤ length wanted.now }
     requires typing_long { pairs (C.NodeCheck.schema check.old) (C.NodeCheck.graph check.old) ≤ length typing.old }
-    requires marks_long { 256 ≤ length marks.old }
+    requires marks_long { (C.NodeCheck.graph check.old).nodes ≤ length marks.old }
     ensures kept { (C.NodeCheck.schema check.new ≡ C.NodeCheck.schema check.old) × (C.NodeCheck.graph check.new ≡ C.NodeCheck.graph check.old) }
     ensures change { Passed (C.NodeCheck.schema check.old) (C.NodeCheck.graph check.old) strata.now wanted.now stratum result marks.old marks.new typing.old typing.new (C.NodeCheck.graph check.old).nodes }
 {
     let mut cleared = false;
     for node in 0..check.node_count() {
         if marks[node as usize]
-            && narrow_node(
-                check, backward, strata, wanted, stratum, node, marks, typing,
-            )
+            && narrow_node(check, strata, wanted, stratum, node, marks, typing)
         {
             cleared = true;
         }
@@ -162,14 +150,12 @@ fn narrow_marked<C: NodeCheck>(
 // Takes out what is not satisfied until every wanted pair of the stratum that is left is.
 pub(crate) fn narrow<C: NodeCheck>(
     check: &mut C,
-    backward: &Backward,
     strata: &[u8],
     wanted: &[u8],
     stratum: u8,
     typing: &mut [u8],
 )
     requires few { (C.NodeCheck.graph check.old).nodes ≤ 256 }
-    requires turned { Turned (C.NodeCheck.graph check.old) backward.now }
     requires strata_long { (C.NodeCheck.schema check.old).labels ≤ length strata.now }
     requires wanted_long { pairs (C.NodeCheck.schema check.old) (C.NodeCheck.graph check.old) ≤ length wanted.now }
     requires typing_long { pairs (C.NodeCheck.schema check.old) (C.NodeCheck.graph check.old) ≤ length typing.old }
@@ -178,5 +164,5 @@ pub(crate) fn narrow<C: NodeCheck>(
     ensures after { Stable (C.NodeCheck.schema check.old) (C.NodeCheck.graph check.old) strata.now wanted.now stratum typing.new }
 {
     let mut marks = [true; MAX_NODES];
-    while narrow_marked(check, backward, strata, wanted, stratum, &mut marks, typing) {}
+    while narrow_marked(check, strata, wanted, stratum, &mut marks, typing) {}
 }

@@ -56,11 +56,10 @@ pub fn decide<C: NodeCheck>(
         return;
     }
     clear_wanted(size, wanted, typing);
-    let backward = check.backward();
     for stratum in 1..=LAST_STRATUM {
         if has_stratum(labels, strata, stratum) {
             raise(size, labels, strata, wanted, stratum, typing);
-            narrow(check, &backward, strata, wanted, stratum, typing);
+            narrow(check, strata, wanted, stratum, typing);
         }
     }
 }

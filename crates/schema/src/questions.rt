@@ -7,7 +7,7 @@ ghost use Rattle.tables.specs.Held.{held};
 ghost use Rattle.schema.specs.Accepted.{accepted, meaning};
 
 use crate::schema::Schema;
-use draft::{ShapeRow, TripleRow};
+use draft::{PropertySet, ShapeRow, TripleRow};
 use tables::LawfulTables;
 
 fn at<T: Copy>(rows: &[T], row: u8) -> Option<T>
@@ -21,36 +21,60 @@ impl Schema {
     pub fn label_count(&self) -> usize
         ensures { result ≡ (meaning self.now).labels }
     {
-        self.tables.definitions().len()
+        self.definitions().len()
     }
 
     // The shape row that defines the label.
     pub fn definition(&self, label: u8) -> Option<u8>
         ensures { result ≡ slice_get (accepted self.now).definitions label }
     {
-        at(self.tables.definitions(), label)
+        at(self.definitions(), label)
     }
 
     pub fn shape(&self, row: u8) -> Option<ShapeRow>
         ensures { result ≡ slice_get (accepted self.now).shapes row }
     {
-        at(self.tables.shapes(), row)
+        at(self.shapes(), row)
     }
 
     pub fn triple(&self, row: u8) -> Option<TripleRow>
         ensures { result ≡ slice_get (accepted self.now).triples row }
     {
-        at(self.tables.triples(), row)
+        at(self.triples(), row)
     }
 
     // Whether the property is in the set; a set that is not there holds none.
     pub fn contains(&self, set: u8, property: u8) -> bool
         ensures { result ≡ (meaning self.now).sets set property }
     {
-        match self.tables.sets().get(set as usize) {
+        match self.sets().get(set as usize) {
             Some(properties) => properties.contains(property),
             None => false,
         }
+    }
+
+    pub fn definitions(&self) -> &[u8]
+        ensures { result.now ≡ (accepted self.now).definitions }
+    {
+        self.tables.definitions()
+    }
+
+    pub fn shapes(&self) -> &[ShapeRow]
+        ensures { result.now ≡ (accepted self.now).shapes }
+    {
+        self.tables.shapes()
+    }
+
+    pub fn triples(&self) -> &[TripleRow]
+        ensures { result.now ≡ (accepted self.now).triples }
+    {
+        self.tables.triples()
+    }
+
+    pub fn sets(&self) -> &[PropertySet]
+        ensures { result.now ≡ (accepted self.now).sets }
+    {
+        self.tables.sets()
     }
 
     // The tables of the draft that was accepted last.

@@ -1,1 +1,2 @@
+pub mod Chaining
 pub mod Marking

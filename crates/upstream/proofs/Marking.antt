@@ -8,7 +8,7 @@ use Rattle.shapes.specs.Lists.{Member}
 use Rattle.shapes.specs.Typing.{Graph}
 use Rattle.shapes.proofs.Lists.{member_push, member_last, member_pushed}
 use Rattle.stack.specs.Entries.{entries}
-use Rattle.backward.specs.Chains.{Leads}
+use Rattle.upstream.specs.Chains.{Leads}
 use Rattle.upstream.specs.Search.{marked, unmarked, Grown, Searching}
 
 -- a node that was not marked is marked and waits

@@ -8,7 +8,7 @@ use Rattle.std.specs.Prelude.{◌≡◌, ℕ, ◌+◌, ◌≤◌, Bool, true, fa
 use Rattle.shapes.specs.Leaning.{Reaches}
 use Rattle.shapes.specs.Lists.{Member}
 use Rattle.shapes.specs.Typing.{Graph}
-use Rattle.backward.specs.Chains.{Leads}
+use Rattle.upstream.specs.Chains.{Leads}
 
 abbrev pub graph_of : ℕ → (ℕ → List (ℕ × ℕ)) → (ℕ → ℕ → Bool) → Graph
 graph_of nodes arcs passes = record { nodes = nodes; arcs = arcs; passes = passes }

@@ -1,6 +1,7 @@
 // Which nodes of a store lead to a node by triples.
 #![tactic(auto)]
 
+mod backward;
 mod search;
 
 pub use search::upstream;

@@ -2,10 +2,10 @@
 ghost use Rattle.std.specs.Prelude.{◌≡◌, ℕ, ◌+◌, ◌<◌, ◌≤◌, Bool, true, false, length, Decides, slice_index_or};
 ghost use Rattle.shapes.specs.Leaning.{Reaches};
 ghost use Rattle.stack.specs.Entries.{entries};
-ghost use Rattle.backward.specs.Chains.{OnChainOf, Sound};
+ghost use Rattle.upstream.specs.Chains.{OnChainOf, Sound};
 ghost use Rattle.upstream.specs.Search.{graph_of, marked, unmarked, Grown};
 
-use backward::Backward;
+use crate::backward::Backward;
 use stack::Stack;
 use triple::Store;
 

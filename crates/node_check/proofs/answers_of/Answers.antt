@@ -45,13 +45,13 @@ returns g c =
     let defs = c.definitions-row-items.ensures in
     let holds = c.shape-rows-holds.result in
     let wanted = c.args.wanted.now in
-    let met = c.met-rows-met.result in
+    let met = c.met_asked-met.result in
     let asked = c.asked-rows-asked.result in
     let all : c.loop-label.label ≡ length t.definitions = omega (arith, ap length defs) in
     answered t c.lawful.ensures G c.args.typing.now c.args.node wanted asked met holds c.loop-label.answers (omega arith)
     c.asked-rows-asked.ensures
-    (subst (λ zs. (p : ℕ) → On met p → Meets t c.args.typing.now zs p) c.of-arcs.ensures c.met-rows-met.ensures.only)
-    (subst (λ zs. (p : ℕ) → On asked p → Meets t c.args.typing.now zs p → On met p) c.of-arcs.ensures c.met-rows-met.ensures.asked)
+    (subst (λ zs. (p : ℕ) → On met p → Meets t c.args.typing.now zs p) c.of-arcs.ensures c.met_asked-met.ensures.only)
+    (subst (λ zs. (p : ℕ) → On asked p → Meets t c.args.typing.now zs p → On met p) c.of-arcs.ensures c.met_asked-met.ensures.asked)
     c.shape-rows-holds.ensures
     (subst (λ k. Upto (λ l. On wanted l × On holds (get_or t.definitions l 0)) k c.loop-label.answers) all
     (subst (λ d. Upto (λ l. On wanted l × On holds (get_or d l 0)) c.loop-label.label c.loop-label.answers) defs c.loop-label.invariant.0))

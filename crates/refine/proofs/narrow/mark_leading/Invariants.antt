@@ -1,14 +1,7 @@
-use Rattle.std.proofs.Common.{◌≡◌, ℕ, ◌≤◌, true, false, ◌⊎◌, get_or}
-use Rattle.backward.specs.Chains.{On, on}
+use Rattle.std.proofs.Common.{ℕ}
+use Rattle.shapes.specs.Lists.{Member}
+use Rattle.refine.specs.Narrowing.{Marked}
 use Rattle.refine.proofs.narrow.mark_leading.Given as goal
 
-abbrev pub invariant-loop-at : goal.invariant-loop-at
-invariant-loop-at l =
-    (l.at ≤ 3072)
-    × ((n : ℕ) → get_or l.initial.marks n false ≡ true → get_or l.marks n false ≡ true)
-    × ((n : ℕ) → get_or l.marks n false ≡ true → (get_or l.initial.marks n false ≡ true) ⊎ on l.backward.first l.backward.next l.backward.source l.object n)
-    × ((n : ℕ) → On l.backward.next l.backward.source l.at n → on l.backward.first l.backward.next l.backward.source l.object n)
-    × ((n : ℕ) → on l.backward.first l.backward.next l.backward.source l.object n → (get_or l.marks n false ≡ true) ⊎ On l.backward.next l.backward.source l.at n)
-
-abbrev pub decreases-loop-at : goal.decreases-loop-at
-decreases-loop-at l = l.at
+abbrev pub invariant-loop-node : goal.invariant-loop-node
+invariant-loop-node g l = Marked (λ n. (p : ℕ) × Member (p, l.object) ((g.C.NodeCheck.graph l.check).arcs n)) l.node l.initial.marks l.marks

@@ -1,9 +1,8 @@
-use Rattle.std.proofs.Common.{◌≡◌, ℕ, ◌+◌, ◌≤◌, Bool, true, false, List, length, sym, ap, ◌∙◌, subst, arith}
+use Rattle.std.proofs.Common.{◌≡◌, ℕ, ◌+◌, ◌≤◌, Bool, true, false, List, length, sym, ap, ◌∙◌, arith}
 use Rattle.shapes.specs.Expr.{Schema}
 use Rattle.shapes.specs.Typing.{Graph}
 use Rattle.refine.specs.Deciding.{size}
 use Rattle.refine.specs.Narrowing.{Passed, Visited}
-use Rattle.refine.specs.Turned.{Turned}
 use Rattle.refine.proofs.Steps.{at_equal, at_four, passed_unmarked, passed_cleared, passed_kept}
 use Rattle.refine.proofs.narrow.narrow_marked.Goals as goal
 use Rattle.refine.proofs.narrow.narrow_marked.Goals.{
@@ -21,12 +20,10 @@ narrow-node-requires g c =
     let f : g.C.NodeCheck.graph c.loop-node.check ≡ G = c.loop-node.invariant.1 in
     record {
       node-bound = omega (arith, ap (λ (G : Graph). G.nodes) f);
-      few = omega (arith, ap (λ (G : Graph). G.nodes) f, c.node-count-node-end.ensures.value, c.node-count-node-end.ensures.bound);
-      turned = subst (λ G. Turned G c.args.backward.now) (sym f) c.requires.turned;
       strata_long = omega (arith, ap (λ (S : Schema). S.labels) e);
       wanted_long = at_equal (λ S G. size S G ≤ length c.args.wanted.now) S _ G _ (sym e) (sym f) c.requires.wanted_long;
       typing_long = at_equal (λ S G. size S G ≤ length c.loop-node.typing) S _ G _ (sym e) (sym f) (omega arith);
-      marks_long = omega arith;
+      marks_long = omega (arith, ap (λ (G : Graph). G.nodes) f);
     }
 
 pub loop-node-preserved : goal.loop-node-preserved

@@ -1,9 +1,8 @@
-use Rattle.std.proofs.Common.{◌≡◌, ℕ, ◌+◌, ◌*◌, ◌<◌, true, false, get_or, set, sym, refl, subst, arith, length-set}
+use Rattle.std.proofs.Common.{◌≡◌, ℕ, ◌+◌, ◌*◌, ◌<◌, true, false, get_or, set, sym, refl, subst, arith}
 use Rattle.std.proofs.lemmas.Bool.Decides.{not_from_Decides}
-use Rattle.refine.specs.Narrowing.{Cleared, Visited}
-use Rattle.refine.proofs.Marks.{turned_marked}
+use Rattle.refine.specs.Narrowing.{Cleared, Visited, Marked}
 use Rattle.refine.proofs.Places.{row_below}
-use Rattle.refine.proofs.Steps.{visited_none, visited_cleared, visited_kept}
+use Rattle.refine.proofs.Steps.{Leads, visited_none, visited_cleared, visited_kept}
 use Rattle.refine.proofs.narrow.narrow_node.Goals as goal
 
 pub has-due-requires : goal.has-due-requires
@@ -46,7 +45,7 @@ returns-then-cleared g c =
           c.mark-leading.new.marks c.requires.node-bound c.satisfied-found.ensures.value
           (subst (λ L. Cleared c.args.strata.now c.args.wanted.now c.args.stratum (c.args.node * L) c.satisfied-found.result c.args.typing.now L true c.clear-row-cleared.new.typing)
           c.label-count-labels.ensures.value c.if-cleared.ensures)
-          (turned_marked G c.args.backward.now c.requires.turned c.args.node (set c.args.marks.now c.args.node false) c.mark-leading.new.marks c.mark-leading.ensures));
+          (subst (λ H. Marked (Leads H c.args.node) H.nodes (set c.args.marks.now c.args.node false) c.mark-leading.new.marks) c.satisfied-found.ensures.kept.1 c.mark-leading.ensures));
     }
 
 pub returns-else-cleared : goal.returns-else-cleared
@@ -63,6 +62,3 @@ returns-else-cleared g c =
           (subst (λ L. Cleared c.args.strata.now c.args.wanted.now c.args.stratum (c.args.node * L) c.satisfied-found.result c.args.typing.now L false c.clear-row-cleared.new.typing)
           c.label-count-labels.ensures.value c.if-cleared.ensures));
     }
-
-pub mark-leading-requires : goal.mark-leading-requires
-mark-leading-requires g c = record { within = omega (arith, c.requires.node-bound, c.requires.few); sound = c.requires.turned.sound; marks_long = omega (arith, c.requires.marks_long, length-set c.args.marks.now c.args.node false) }

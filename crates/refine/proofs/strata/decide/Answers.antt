@@ -4,7 +4,6 @@ use Rattle.shapes.specs.Expr.{Schema}
 use Rattle.shapes.specs.Typing.{Graph}
 use Rattle.refine.specs.Deciding.{Room, size}
 use Rattle.refine.specs.Narrowing.{Narrowed, Stable}
-use Rattle.refine.specs.Turned.{Turned}
 use Rattle.refine.proofs.Steps.{at_equal, at_two}
 use Rattle.refine.proofs.Decisions.{Risen, risen_next, risen_skipped, risen_decided, ready_untouched, cleared_untouched}
 use Rattle.refine.proofs.strata.decide.Goals as goal
@@ -22,7 +21,6 @@ narrow-requires g c =
     (c.has-room.ensures.0 c.if-not-has-room.false)) in
     record {
       few = omega (arith, ap (λ (G : Graph). G.nodes) f);
-      turned = subst (λ G. Turned G c.backward-backward.result) (sym f) c.backward-backward.ensures;
       strata_long = omega (arith, ap (λ (S : Schema). S.labels) e);
       wanted_long = at_equal (λ S G. size S G ≤ length c.args.wanted.now) S (g.C.NodeCheck.schema c.loop-stratum.check) G (g.C.NodeCheck.graph c.loop-stratum.check) (sym e) (sym f) room.wanted_long;
       typing_long = at_equal (λ S G. size S G ≤ length c.raise.new.typing) S (g.C.NodeCheck.schema c.loop-stratum.check) G (g.C.NodeCheck.graph c.loop-stratum.check) (sym e) (sym f) (omega (arith, room.typing_long));

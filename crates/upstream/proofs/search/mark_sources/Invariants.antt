@@ -1,6 +1,6 @@
 use Rattle.std.proofs.Common.{◌≡◌, ℕ, ◌+◌, ◌≤◌, true, ◌⊎◌, length}
 use Rattle.stack.specs.Entries.{entries}
-use Rattle.backward.specs.Chains.{On, OnChainOf}
+use Rattle.upstream.specs.Chains.{On, OnChainOf}
 use Rattle.upstream.specs.Search.{marked, unmarked, Grown}
 use Rattle.upstream.proofs.search.mark_sources.Given as goal
 
