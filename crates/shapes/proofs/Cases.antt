@@ -1,5 +1,7 @@
 -- The worked cases, by computing their tables.
-use Rattle.std.proofs.Common.{◌≡◌, ℕ, zero, suc, ◌<◌, ◌≤◌, Bool, true, false, ◌&&◌, ◌⊎◌, ◌↔◌, List, [], ◌∷◌, All, refl, subst, inl, inr, arith}
+use Rattle.std.proofs.Common.{◌≡◌, ℕ, zero, suc, ◌<◌, ◌≤◌, Bool, true, false, ◌&&◌, ◌⊎◌, ◌↔◌, List, [], ◌∷◌, refl, subst, inl, inr, arith}
+use Rattle.std.specs.List.{AllByRecursion}
+use Rattle.std.proofs.lemmas.List.Elements.{All-from_recursion}
 use mathlib.Core.Logic.Iff
 use Rattle.std.proofs.lemmas.Bool.{and_parts}
 use Rattle.std.proofs.lemmas.Bool.Decides.{Decides-below_and}
@@ -64,21 +66,21 @@ Checked (typing S G t c) = (positive_below S S.labels ≡ true) × (solve S G (�
 Checked (look S G at pairs) = Right (look S G at pairs)
 Checked (cycle S at) = Right (cycle S at)
 
-all_right : (cs : List Case) → All Checked cs → All Right cs
+all_right : (cs : List Case) → AllByRecursion Checked cs → AllByRecursion Right cs
 all_right [] h = tt
 all_right (typing S G t c ∷ cs) (h, r) = let one = one_stratum S h.0 in ((one, computed S G t one h.1, h.2), all_right cs r)
 all_right (look S G at pairs ∷ cs) (h, r) = (h, all_right cs r)
 all_right (cycle S at ∷ cs) (h, r) = (h, all_right cs r)
 
-all_member : {A : Type 0} (P : A → Type 0) {a : A} {zs : List A} → Member a zs → All P zs → P a
+all_member : {A : Type 0} (P : A → Type 0) {a : A} {zs : List A} → Member a zs → AllByRecursion P zs → P a
 all_member P first h = h.0
 all_member P (later m) h = all_member P m h.1
 
 -- the first look in the house
 module _ (S : Schema) (G : Graph) (n l : ℕ) (pairs : List (ℕ × ℕ)) where
   -- the pairs are reached if each is, and no other is if they are closed under leaning, arc by arc
-  reached_right : All (λ x. Reached S G n l x.0 x.1) pairs → Member (n, l) pairs
-      → All (λ x. All (λ y. (k : ℕ) → Admits S.sets (S.definition x.1) y.0 k → Member (y.1, k) pairs) (G.arcs x.0)) pairs
+  reached_right : AllByRecursion (λ x. Reached S G n l x.0 x.1) pairs → Member (n, l) pairs
+      → AllByRecursion (λ x. AllByRecursion (λ y. (k : ℕ) → Admits S.sets (S.definition x.1) y.0 k → Member (y.1, k) pairs) (G.arcs x.0)) pairs
       → (o k : ℕ) → Member (o, k) pairs ↔ Reached S G n l o k
   reached_right reached start closed o k = (λ m. all_member (λ x. Reached S G n l x.0 x.1) m reached, within)
     where
@@ -86,7 +88,7 @@ module _ (S : Schema) (G : Graph) (n l : ℕ) (pairs : List (ℕ × ℕ)) where
       within asked = start
       within (next r h) =
           all_member (λ y. (k : ℕ) → Admits S.sets (S.definition _) y.0 k → Member (y.1, k) pairs) h.1
-          (all_member (λ x. All (λ y. (k : ℕ) → Admits S.sets (S.definition x.1) y.0 k → Member (y.1, k) pairs) (G.arcs x.0)) (within r) closed)
+          (all_member (λ x. AllByRecursion (λ y. (k : ℕ) → Admits S.sets (S.definition x.1) y.0 k → Member (y.1, k) pairs) (G.arcs x.0)) (within r) closed)
           _ h.2
 
 abbrev three : List (ℕ × ℕ)
@@ -133,5 +135,4 @@ itself_twice_right = (((omega arith, refl), here), lowest)
 
 pub cases_right : Cases
 cases_right =
-    all_right cases
-    ((refl, refl, refl), (look_right, ((refl, refl, refl), ((refl, refl, refl), ((refl, refl, refl), ((refl, refl, refl), (each_other_right, (itself_twice_right, ((refl, refl, refl), ((refl, refl, refl), ((refl, refl, refl), ((refl, refl, refl), ((refl, refl, refl), ((refl, refl, refl), tt))))))))))))))
+    All-from_recursion Right cases (all_right cases ((refl, refl, refl), (look_right, ((refl, refl, refl), ((refl, refl, refl), ((refl, refl, refl), ((refl, refl, refl), (each_other_right, (itself_twice_right, ((refl, refl, refl), ((refl, refl, refl), ((refl, refl, refl), ((refl, refl, refl), ((refl, refl, refl), ((refl, refl, refl), tt)))))))))))))))
