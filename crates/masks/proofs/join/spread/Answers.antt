@@ -5,7 +5,7 @@ use Rattle.masks.proofs.Apart.{part_whole, part_more}
 use Rattle.masks.proofs.Flags.{not_on}
 use Rattle.masks.proofs.Scatter.{spread_none, spread_skip, spread_take, spread_next}
 use Rattle.masks.proofs.join.spread.Goals as goal
-use Rattle.masks.proofs.join.spread.Goals.{then-b-d, else-b-d, Joined-b-d, at·loop-d-again, at·returns-then-d-eq0}
+use Rattle.masks.proofs.join.spread.Goals.{then-b-d, else-b-d, Joined-b-d}
 
 after_test : (c : Joined-b-d) (n : ℕ) → c.args.s + (c.masks.result - 1 - c.args.s) + 1 ≡ 2 ^ n
     → Spread n c.args.c.now c.args.b.now c.args.s (c.masks.result - 1 - c.args.s) c.loop-d.d c.if-b-d.c
@@ -33,7 +33,7 @@ loop-d-preserved c =
     let u = c.masks.result - 1 - c.args.s in (
       part_more u c.loop-d.d c.loop-d.invariant.0 c.if-d-eq0.false,
       λ n e. spread_next n c.args.c.now c.args.b.now c.args.s u c.loop-d.d c.if-b-d.c (omega arith)
-          c.loop-d.invariant.0 c.if-d-eq0.false (after_test (at·loop-d-again c).Joined-b-d n e),
+          c.loop-d.invariant.0 c.if-d-eq0.false (after_test (goal.at.loop-d-again c).Joined-b-d n e),
     )
 
 pub returns-then-d-eq0 : goal.returns-then-d-eq0
@@ -42,4 +42,4 @@ returns-then-d-eq0 c =
     let m : c.masks.result - 1 - c.args.s ≡ 2 ^ n - 1 - c.args.s = omega arith in
     subst (λ u. Spread n c.args.c.now c.args.b.now c.args.s u 0 c.if-b-d.c) m
     (subst (λ d. Spread n c.args.c.now c.args.b.now c.args.s (c.masks.result - 1 - c.args.s) d c.if-b-d.c) c.if-d-eq0.true
-    (after_test (at·returns-then-d-eq0 c).Joined-b-d n (omega arith)))
+    (after_test (goal.at.returns-then-d-eq0 c).Joined-b-d n (omega arith)))

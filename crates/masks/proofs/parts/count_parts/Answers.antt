@@ -4,7 +4,7 @@ use Rattle.masks.specs.Steps.{More, Begun}
 use Rattle.masks.proofs.Flags.{not_on}
 use Rattle.masks.proofs.Tally.{begun_none, begun_skip, begun_more, begun_all}
 use Rattle.masks.proofs.parts.count_parts.Goals as goal
-use Rattle.masks.proofs.parts.count_parts.Goals.{then-part-top, else-part-top, then-a-part, else-a-part, Joined-part-top, at·loop-part-again, at·add-part-requires}
+use Rattle.masks.proofs.parts.count_parts.Goals.{then-part-top, else-part-top, then-a-part, else-a-part, Joined-part-top}
 
 -- the top place of the part, after the test
 top-after : (c : Joined-part-top) → ((i : ℕ) × (c.if-part-top.top ≡ 2 ^ i)) × (c.if-part-top.top ≤ c.loop-part.part) × (c.loop-part.part < 2 * c.if-part-top.top)
@@ -32,12 +32,12 @@ loop-part-init c = (
   (0, refl),
   omega arith,
   omega arith,
-  λ n e. begun_none c.args.a.now c.clear-counts.new.counts n (omega arith) (λ m h. c.clear-counts.ensures m (omega (arith, e, h))),
+  λ n e. begun_none c.args.a.now c.clear_counts.new.counts n (omega arith) (λ m h. c.clear_counts.ensures m (omega (arith, e, h))),
 )
 
-pub add-part-requires : goal.add-part-requires
-add-part-requires c =
-    let t = top-after (at·add-part-requires c).Joined-part-top in
+pub add_part-requires : goal.add_part-requires
+add_part-requires c =
+    let t = top-after (goal.at.add_part-requires c).Joined-part-top in
     let n = c.args.fan.value in
     let h : 2 ^ t.0.0 < 2 ^ n = omega (arith, t.0.1, t.1) in
     let r = half t.0.0 n h in
@@ -45,7 +45,7 @@ add-part-requires c =
 
 pub loop-part-preserved : goal.loop-part-preserved
 loop-part-preserved c =
-    let t = top-after (at·loop-part-again c).Joined-part-top in
+    let t = top-after (goal.at.loop-part-again c).Joined-part-top in
     let top = c.if-part-top.top in
     let p = c.loop-part.part in
     let i = t.0.0 in
@@ -56,8 +56,8 @@ loop-part-preserved c =
       λ n e.
           elim c.if-a-part.branch [
             | then-a-part w ↦ subst (λ k. Begun a k n (p + 1)) (sym w.counts-is)
-                (begun_more a c.loop-part.counts w.add-part.new.counts n i p (omega (arith, t.0.1, t.1)) (omega (arith, t.0.1, t.2)) w.if-a-part.true
-                (subst (λ x. More c.loop-part.counts p (2 * x - 1 - p) 0 w.add-part.new.counts) t.0.1 w.add-part.ensures) (c.loop-part.invariant.3 n e))
+                (begun_more a c.loop-part.counts w.add_part.new.counts n i p (omega (arith, t.0.1, t.1)) (omega (arith, t.0.1, t.2)) w.if-a-part.true
+                (subst (λ x. More c.loop-part.counts p (2 * x - 1 - p) 0 w.add_part.new.counts) t.0.1 w.add_part.ensures) (c.loop-part.invariant.3 n e))
             | else-a-part w ↦ subst (λ k. Begun a k n (p + 1)) (sym w.counts-is)
                 (begun_skip a c.loop-part.counts n p (not_on w.if-a-part.false) (c.loop-part.invariant.3 n e))
           ],

@@ -25,19 +25,19 @@ pub loop-i-preserved : goal.loop-i-preserved
 loop-i-preserved c =
     let m = c.args.self.now in
     let n = c.args.node in
-    let k = get_or m.fans n 0 - c.loop-i.-i in
+    let k = get_or m.fans n 0 - c.loop-i._i in
     let some : 0 < k = omega arith in
     let more : 0 < k - 1 = omega arith in
-    let later : 0 < c.args.place - c.loop-i.-i = omega arith in
+    let later : 0 < c.args.place - c.loop-i._i = omega arith in
     let kept : (f : ℕ) → on m.next (k - 1) (get_or m.next c.loop-i.cell 0) f ≡ true → on_chain m.heads m.fans m.next n f ≡ true =
     λ f h. c.loop-i.invariant.3 f (on_rest m.next k c.loop-i.cell f some h) in
-    let on-nth = nth_rest m.next m.properties m.objects k c.loop-i.cell (c.args.place - c.loop-i.-i) some later in
+    let on-nth = nth_rest m.next m.properties m.objects k c.loop-i.cell (c.args.place - c.loop-i._i) some later in
     (m.cells n _ (kept _ (on_first m.next (k - 1) (get_or m.next c.loop-i.cell 0) more)), c.loop-i.invariant.1, c.loop-i.invariant.2, simp sub_more kept, simp sub_more (on-nth ∙ c.loop-i.invariant.4))
 
 pub returns : goal.returns
 returns c =
     let m = c.args.self.now in
-    let k = get_or m.fans c.args.node 0 - c.loop-i.-i in
+    let k = get_or m.fans c.args.node 0 - c.loop-i._i in
     let some : 0 < k = omega arith in
-    let here : c.args.place - c.loop-i.-i ≡ 0 = omega arith in
+    let here : c.args.place - c.loop-i._i ≡ 0 = omega arith in
     sym (nth_first m.next m.properties m.objects k c.loop-i.cell some) ∙ (rw here at c.loop-i.invariant.4)

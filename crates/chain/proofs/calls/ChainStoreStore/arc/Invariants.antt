@@ -9,6 +9,6 @@ invariant-loop-i l =
     (l.cell < 512)
     × (l.node < 256)
     × (l.place < get_or l.self.fans l.node 0)
-    × ((f : ℕ) → on l.self.next (get_or l.self.fans l.node 0 - l.-i) l.cell f ≡ true → on_chain l.self.heads l.self.fans l.self.next l.node f ≡ true)
-    × (slice_get (chain l.self.next l.self.properties l.self.objects (get_or l.self.fans l.node 0 - l.-i) l.cell) (l.place - l.-i)
+    × ((f : ℕ) → on l.self.next (get_or l.self.fans l.node 0 - l._i) l.cell f ≡ true → on_chain l.self.heads l.self.fans l.self.next l.node f ≡ true)
+    × (slice_get (chain l.self.next l.self.properties l.self.objects (get_or l.self.fans l.node 0 - l._i) l.cell) (l.place - l._i)
     ≡ slice_get (arcs_of l.self.heads l.self.fans l.self.next l.self.properties l.self.objects l.node) l.place)

@@ -23,13 +23,13 @@ bounds-self-head-3 c = (done (goal.at.bounds-self-head-3 c).In-Some).head
 pub bounds-self-self : goal.bounds-self-self
 bounds-self-self c = omega (arith, (done (goal.at.bounds-self-self c).In-Some).counted)
 
-pub overflow-sub-self-3 : goal.overflow-sub-self-3
-overflow-sub-self-3 c = omega (arith, (done (goal.at.overflow-sub-self-3 c).In-Some).counted)
+pub overflow_sub-self-3 : goal.overflow_sub-self-3
+overflow_sub-self-3 c = omega (arith, (done (goal.at.overflow_sub-self-3 c).In-Some).counted)
 
-pub invariant-of-self : goal.invariant-of-self
-invariant-of-self c =
-    let a = (done (goal.at.invariant-of-self c).In-Some).after in
-    (a.small, (a.room, (a.counted, (a.few, (a.past, (a.apart, (a.within, (a.cells, (a.own, (a.spare, (a.unused, (a.unlike, tt))))))))))))
+pub invariant_of-self : goal.invariant_of-self
+invariant_of-self c =
+    let a = (done (goal.at.invariant_of-self c).In-Some).after in
+    record { small = a.small; room = a.room; counted = a.counted; few = a.few; past = a.past; apart = a.apart; within = a.within; cells = a.cells; own = a.own; spare = a.spare; unused = a.unused; unlike = a.unlike }
 
 pub returns : goal.returns
 returns c =

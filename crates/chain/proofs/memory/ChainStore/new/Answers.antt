@@ -19,42 +19,23 @@ bare n = empty_at (replicate 256 0) (replicate 512 0) (replicate 512 0) (replica
 off : (n c : ℕ) → on_chain (replicate 256 0) (replicate 256 0) (replicate 512 0) n c ≡ false
 off n c = rw (zero_at 256 n) refl
 
-pub invariant-of-result : goal.invariant-of-result
-invariant-of-result c =
-    let all : (k : ℕ) → k < 512 → get_or c.loop-i.free k 0 ≡ k = λ k h. c.loop-i.invariant.1 k (omega arith) in (
-      omega arith,
-      (
-        omega arith,
-        (
-          sym (total_none _ _ bare),
-          (
-            λ n. rw (zero_at 256 n) (omega arith),
-            (
-              λ n h. zero_at 256 n,
-              (
-                λ n. rw (bare n) refl,
-                (
-                  λ n. rw (bare n) refl,
-                  (
-                    λ n k h. let z : false ≡ _ = sym (off n k) ∙ h in let y : ◌≡◌ {A = ℕ} 0 1 = cc in omega arith,
-                    (
-                      λ n m k. rw (off n k) refl,
-                      (
-                        λ i h. rw (all i h) h,
-                        (
-                          λ i n h. off n _,
-                          (λ i j h. sym (all i h.0) ∙ h.2 ∙ all j h.1, tt),
-                        ),
-                      ),
-                    ),
-                  ),
-                ),
-              ),
-            ),
-          ),
-        ),
-      ),
-    )
+pub invariant_of-result : goal.invariant_of-result
+invariant_of-result c =
+    let all : (k : ℕ) → k < 512 → get_or c.loop-i.free k 0 ≡ k = λ k h. c.loop-i.invariant.1 k (omega arith) in
+    record {
+      small = omega arith;
+      room = omega arith;
+      counted = sym (total_none _ _ bare);
+      few = λ n. rw (zero_at 256 n) (omega arith);
+      past = λ n h. zero_at 256 n;
+      apart = λ n. rw (bare n) refl;
+      within = λ n. rw (bare n) refl;
+      cells = λ n k h. let z : false ≡ _ = sym (off n k) ∙ h in let y : ◌≡◌ {A = ℕ} 0 1 = cc in omega arith;
+      own = λ n m k. rw (off n k) refl;
+      spare = λ i h. rw (all i h) h;
+      unused = λ i n h. off n _;
+      unlike = λ i j h. sym (all i h.0) ∙ h.2 ∙ all j h.1;
+    }
 
 pub returns : goal.returns
 returns c = record { nodes = search rules; empty = bare }
