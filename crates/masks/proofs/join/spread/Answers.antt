@@ -33,7 +33,7 @@ loop-d-preserved c =
     let u = c.masks.result - 1 - c.args.s in (
       part_more u c.loop-d.d c.loop-d.invariant.0 c.if-d-eq0.false,
       λ n e. spread_next n c.args.c.now c.args.b.now c.args.s u c.loop-d.d c.if-b-d.c (omega arith)
-          c.loop-d.invariant.0 c.if-d-eq0.false (after_test (goal.at.loop-d-again c).Joined-b-d n e),
+          c.loop-d.invariant.0 c.if-d-eq0.false (after_test (goal.at.loop-d-preserved c).Joined-b-d n e),
     )
 
 pub returns-then-d-eq0 : goal.returns-then-d-eq0

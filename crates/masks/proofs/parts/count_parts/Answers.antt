@@ -45,7 +45,7 @@ add_part-requires c =
 
 pub loop-part-preserved : goal.loop-part-preserved
 loop-part-preserved c =
-    let t = top-after (goal.at.loop-part-again c).Joined-part-top in
+    let t = top-after (goal.at.loop-part-preserved c).Joined-part-top in
     let top = c.if-part-top.top in
     let p = c.loop-part.part in
     let i = t.0.0 in

@@ -8,7 +8,7 @@ use Rattle.rows.proofs.scans.find_in.Goals as goal
 pub loop-at-preserved : goal.loop-at-preserved
 loop-at-preserved c =
     let t = c.args.triple in
-    has_pass c.args.rows.now c.loop-at.at _ (omega arith) t.subject t.property t.object (sym c.is-held.ensures ∙ c.if-is-held.false) ∙ c.loop-at.invariant
+    has_pass c.args.rows.now c.loop-at.at _ (omega arith) t.subject t.property t.object (sym c.is_held.ensures ∙ c.if-is_held.false) ∙ c.loop-at.invariant
 
 pub returns : goal.returns
 returns c =

@@ -13,12 +13,12 @@ pub returns-then-triple-self-2 : goal.returns-then-triple-self-2
 returns-then-triple-self-2 c =
     record { answer = simp (lt-leb _ _ c.if-triple-self.false, le-leb _ _ c.if-triple-self-2.true) refl; change = refl; kept = (refl, refl); held = refl; same = refl }
 
-pub returns-in-default : goal.returns-in-default
-returns-in-default c =
+pub returns-in_default : goal.returns-in_default
+returns-in_default c =
     let m = c.args.self.now in
     let absent = sym c.inspect-found.ensures.present ∙ c.if-found.false in
     let unfilled = ne_eqb _ 12 (λ e. c.if-found-from.false (c.inspect-found.ensures.fan ∙ e ∙ sym c.from.ensures)) in
-    let full-store = eq-eqb _ _ (sym (used_total m.nodes _ m.past) ∙ MatchOption-at_none _ _ c.in-default.is c.inspect-found.ensures.vacant ∙ length_front m.rows.now) in
+    let full-store = eq-eqb _ _ (sym (used_total m.nodes _ m.past) ∙ MatchOption-at_none _ _ c.in_default.is c.inspect-found.ensures.vacant ∙ length_front m.rows.now) in
     record { answer = simp (lt-leb _ _ c.if-triple-self.false, lt-leb _ _ c.if-triple-self-2.false, absent, unfilled, full-store) refl; change = refl; kept = (refl, refl); held = refl; same = refl }
 
 -- what holds once a free row is found
@@ -43,17 +43,17 @@ after c =
     lawful_more _ _ c.args.triple.subject c.args.triple.property c.args.triple.object (gains c) _ _ c.if-triple-self.false (lawful_in c.args.self.now)
     (omega arith) c.if-triple-self-2.false (sym c.inspect-found.ensures.present ∙ c.if-found.false) (λ e. c.if-found-from.false (c.inspect-found.ensures.fan ∙ e ∙ sym c.from.ensures)) (vacant c)
 
-pub offset-bounds-self-row : goal.offset-bounds-self-row
-offset-bounds-self-row c = omega (arith, below (goal.at.offset-bounds-self-row c).In-Some)
+pub offset_bounds-self-row : goal.offset_bounds-self-row
+offset_bounds-self-row c = omega (arith, below (goal.at.offset_bounds-self-row c).In-Some)
 
 pub bounds-self-row : goal.bounds-self-row
 bounds-self-row c = omega (arith, below (goal.at.bounds-self-row c).In-Some)
 
-pub invariant-of-self : goal.invariant-of-self
-invariant-of-self c =
-    let a = after (goal.at.invariant-of-self c).In-Some in
+pub invariant_of-self : goal.invariant_of-self
+invariant_of-self c =
+    let a = after (goal.at.invariant_of-self c).In-Some in
     let size = length-set c.args.self.now.rows.now c.in-Some.row (full c.args.triple.subject c.args.triple.property c.args.triple.object) in
-    (a.small, (a.few, (a.apart, (a.within, (λ n h. ap length (a.past n h), (omega (arith, size, a.room), tt))))))
+    record { small = a.small; few = a.few; apart = a.apart; within = a.within; past = λ n h. ap length (a.past n h); room = omega (arith, size, a.room) }
 
 pub returns : goal.returns
 returns c =

@@ -23,17 +23,17 @@ loses c = take_gains c.args.self.now.rows.now c.in-Some.row c.args.triple.subjec
 after : (c : In-Some) → Lawful c.args.self.now.nodes (min (length c.args.self.now.rows.now) 1024) (arcs_of (set c.args.self.now.rows.now c.in-Some.row free))
 after c = lawful_less _ _ c.args.triple.subject c.args.triple.property c.args.triple.object (loses c) _ _ c.if-triple-self.false (lawful_in c.args.self.now)
 
-pub offset-bounds-self-row : goal.offset-bounds-self-row
-offset-bounds-self-row c = omega (arith, below (goal.at.offset-bounds-self-row c).In-Some)
+pub offset_bounds-self-row : goal.offset_bounds-self-row
+offset_bounds-self-row c = omega (arith, below (goal.at.offset_bounds-self-row c).In-Some)
 
 pub bounds-self-row : goal.bounds-self-row
 bounds-self-row c = omega (arith, below (goal.at.bounds-self-row c).In-Some)
 
-pub invariant-of-self : goal.invariant-of-self
-invariant-of-self c =
-    let a = after (goal.at.invariant-of-self c).In-Some in
+pub invariant_of-self : goal.invariant_of-self
+invariant_of-self c =
+    let a = after (goal.at.invariant_of-self c).In-Some in
     let size = length-set c.args.self.now.rows.now c.in-Some.row free in
-    (a.small, (a.few, (a.apart, (a.within, (λ n h. ap length (a.past n h), (omega (arith, size, a.room), tt))))))
+    record { small = a.small; few = a.few; apart = a.apart; within = a.within; past = λ n h. ap length (a.past n h); room = omega (arith, size, a.room) }
 
 pub returns : goal.returns
 returns c =

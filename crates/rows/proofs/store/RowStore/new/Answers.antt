@@ -6,18 +6,25 @@ use Rattle.rows.proofs.store.RowStore.new.Goals as goal
 use Rattle.rows.proofs.store.RowStore.new.Goals.{After-min}
 
 -- the rows are freed, so that no node has an arc
-bare : (c : After-min) (n : ℕ) → arcs_of (c.free-all.new.rows ++ drop (c.min-count.result - 0) c.args.rows.now) n ≡ []
-bare c n = ap (λ rows. arcs_of rows n) (made c.args.rows.now c.free-all.new.rows c.min-count.result c.min-count.ensures c.free-all.ensures) ∙ arcs_none c.args.rows.now n
+bare : (c : After-min) (n : ℕ) → arcs_of (c.free_all.new.rows ++ drop (c.min-count.result - 0) c.args.rows.now) n ≡ []
+bare c n = ap (λ rows. arcs_of rows n) (made c.args.rows.now c.free_all.new.rows c.min-count.result c.min-count.ensures c.free_all.ensures) ∙ arcs_none c.args.rows.now n
 
-pub invariant-of-result : goal.invariant-of-result
-invariant-of-result c =
-    let none = bare (goal.at.invariant-of-result c).After-min in
-    (omega arith, (λ n. rw (none n) (omega arith), (λ n. rw (none n) refl, (λ n. rw (none n) refl, (λ n h. ap length (none n), (omega (arith, total_none _ c.min.result none), tt))))))
+pub invariant_of-result : goal.invariant_of-result
+invariant_of-result c =
+    let none = bare (goal.at.invariant_of-result c).After-min in
+    record {
+      small = omega arith;
+      few = λ n. rw (none n) (omega arith);
+      apart = λ n. rw (none n) refl;
+      within = λ n. rw (none n) refl;
+      past = λ n h. ap length (none n);
+      room = omega (arith, total_none _ c.min.result none);
+    }
 
 pub returns : goal.returns
 returns c =
     let at = (goal.at.returns c).After-min in
-    let freed = made c.args.rows.now c.free-all.new.rows c.min-count.result c.min-count.ensures c.free-all.ensures in
+    let freed = made c.args.rows.now c.free_all.new.rows c.min-count.result c.min-count.ensures c.free_all.ensures in
     record {
       nodes = c.min.ensures;
       after = freed;

@@ -6,38 +6,33 @@ use Rattle.draft.proofs.Lawful.{are_lawful}
 use Rattle.tables.specs.Fronts.{fronts}
 use Rattle.tables.proofs.tables.LawfulTables.of.Goals as goal
 
-pub copy-front-requires : goal.copy-front-requires
-copy-front-requires c =
-    let law : Lawful (lent c.args.draft.now) = are_lawful _ (sym c.in-ok-check-rows.ensures) in law.few_labels
+pub copy_front-requires : goal.copy_front-requires
+copy_front-requires c =
+    let law : Lawful (lent c.args.draft.now) = are_lawful _ (sym c.in_ok-check_rows.ensures) in law.few_labels
 
-pub copy-front-requires-2 : goal.copy-front-requires-2
-copy-front-requires-2 c =
-    let law : Lawful (lent c.args.draft.now) = are_lawful _ (sym c.in-ok-check-rows.ensures) in law.few_shapes
+pub copy_front-requires-2 : goal.copy_front-requires-2
+copy_front-requires-2 c =
+    let law : Lawful (lent c.args.draft.now) = are_lawful _ (sym c.in_ok-check_rows.ensures) in law.few_shapes
 
-pub copy-front-requires-3 : goal.copy-front-requires-3
-copy-front-requires-3 c =
-    let law : Lawful (lent c.args.draft.now) = are_lawful _ (sym c.in-ok-check-rows.ensures) in law.few_triples
+pub copy_front-requires-3 : goal.copy_front-requires-3
+copy_front-requires-3 c =
+    let law : Lawful (lent c.args.draft.now) = are_lawful _ (sym c.in_ok-check_rows.ensures) in law.few_triples
 
-pub copy-front-requires-4 : goal.copy-front-requires-4
-copy-front-requires-4 c =
-    let law : Lawful (lent c.args.draft.now) = are_lawful _ (sym c.in-ok-check-rows.ensures) in law.few_sets
+pub copy_front-requires-4 : goal.copy_front-requires-4
+copy_front-requires-4 c =
+    let law : Lawful (lent c.args.draft.now) = are_lawful _ (sym c.in_ok-check_rows.ensures) in law.few_sets
 
-pub invariant-of-result : goal.invariant-of-result
-invariant-of-result c =
+pub invariant_of-result : goal.invariant_of-result
+invariant_of-result c =
     let d = lent c.args.draft.now in
-    let e = c.in-ok-check-rows.ensures in
+    let e = c.in_ok-check_rows.ensures in
     let law : Lawful (lent c.args.draft.now) = are_lawful _ (sym e) in
     let same : fronts (length d.definitions) (length d.shapes) (length d.triples) (length d.sets)
-    c.copy-front.new.place c.copy-front-2.new.place c.copy-front-3.new.place c.copy-front-4.new.place ≡ d = cc in (
-      law.few_labels,
-      (
-        law.few_shapes,
-        (
-          law.few_triples,
-          (
-            law.few_sets,
-            (ap (λ t. is_some (row_refusal t)) same ∙ sym (ap is_some e), tt),
-          ),
-        ),
-      ),
-    )
+    c.copy_front.new.place c.copy_front-2.new.place c.copy_front-3.new.place c.copy_front-4.new.place ≡ d = cc in
+    record {
+      few_labels = law.few_labels;
+      few_shapes = law.few_shapes;
+      few_triples = law.few_triples;
+      few_sets = law.few_sets;
+      lawful = ap (λ t. is_some (row_refusal t)) same ∙ sym (ap is_some e);
+    }
