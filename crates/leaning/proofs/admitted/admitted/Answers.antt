@@ -19,7 +19,7 @@ returns c k =
     let ts = c.triples.result.now in
     let ps = c.sets.result.now in
     let defined = c.lawful.ensures.defined l c.requires in
-    c.admits-of-rows-rows.ensures (get_or ds l 0) k (omega (arith, defined, ap (λ x. get_or x l 0) c.definitions-definitions.ensures, ap length c.shapes.ensures))
+    c.admits_of_rows-rows.ensures (get_or ds l 0) k (omega (arith, defined, ap (λ x. get_or x l 0) c.definitions-definitions.ensures, ap length c.shapes.ensures))
     ∙ ap (λ x. F x ss ts ps) c.definitions-definitions.ensures
     ∙ ap (λ x. F t.definitions x ts ps) c.shapes.ensures
     ∙ ap (λ x. F t.definitions t.shapes x ps) c.triples.ensures

@@ -18,10 +18,10 @@ use Rattle.leaning.specs.Search.{Ready, Grown}
 use Rattle.leaning.proofs.Arcs.{member_nth, same_arc, no_arc}
 use Rattle.leaning.proofs.Marking.{grown_then, grown_like, covered_kept}
 use Rattle.leaning.proofs.search.mark_next.Goals as goal
-use Rattle.leaning.proofs.search.mark_next.Goals.{in-Some, in-default}
+use Rattle.leaning.proofs.search.mark_next.Goals.{in-Some, in_default}
 
-pub mark-labels-requires : goal.mark-labels-requires
-mark-labels-requires g c =
+pub mark_labels-requires : goal.mark_labels-requires
+mark_labels-requires g c =
     let law = c.lawful-2.ensures in
     let within = inside_nth _ _ c.loop-place.place _ c.in-Some.object (law.within c.args.pair.node) c.in-Some.ensures in
     record { within = omega (arith, c.requires.pairs.0); ready = c.loop-place.invariant.0 }
@@ -46,13 +46,13 @@ loop-place-preserved g c =
     × ((j p o k : ℕ) → j < i + 1 → slice_get (arcs n) j ≡ Some (p, o) → Admits S.sets (S.definition l) p k → In (byte_typing N L held) o k ⊎ In (byte_typing N L x) o k) in
     elim c.match-arc.branch [
       | in-Some w ↦
-          let step = w.mark-labels.ensures.change in
+          let step = w.mark_labels.ensures.change in
           let a = w.in-Some.property in
           let b = w.in-Some.object in
           let arc = w.in-Some.ensures in
           let labels = w.admitted-labels.ensures in
-          subst (λ x. P x c.match-arc.waiting) (sym w.marks-is) (subst (P w.mark-labels.new.marks) (sym w.waiting-is) (
-            w.mark-labels.ensures.ready,
+          subst (λ x. P x c.match-arc.waiting) (sym w.marks-is) (subst (P w.mark_labels.new.marks) (sym w.waiting-is) (
+            w.mark_labels.ensures.ready,
             grown_then N L held W _ _ _ _ _ _ inv.1
                 (grown_like N L held _ W _ _ _ _
                 (λ h v. (a, subst (λ z. Member (a, z) (arcs n)) (sym v.0) (nth_member (arcs n) i (a, b) (sym arc)), (decides_admits S.sets (S.definition l) a h.label).0 (sym (labels h.label) ∙ v.1))) step),
@@ -60,17 +60,17 @@ loop-place-preserved g c =
                 (λ (x : j ≡ i).
                 let y : ◌≡◌ {A = ℕ × ℕ} (p, o) (a, b) = same_arc (arcs n) i (p, o) (a, b) (subst (λ z. slice_get (arcs n) z ≡ Some (p, o)) x e) arc in
                 let known = c.lawful.ensures.known l k (omega (arith, c.requires.pairs.1), mentions_from_admits S.sets (S.definition l) p k m) in
-                subst (λ z. In (byte_typing N L held) z k ⊎ In (byte_typing N L w.mark-labels.new.marks) z k) (sym (ap (λ z. z.1) y))
-                (w.mark-labels.ensures.made k (omega (arith, c.requires.pairs.1))
+                subst (λ z. In (byte_typing N L held) z k ⊎ In (byte_typing N L w.mark_labels.new.marks) z k) (sym (ap (λ z. z.1) y))
+                (w.mark_labels.ensures.made k (omega (arith, c.requires.pairs.1))
                 (labels k ∙ (decides_admits S.sets (S.definition l) a k).1 (subst (λ z. Admits S.sets (S.definition l) z k) (ap (λ z. z.0) y) m))))
                 (λ (x : j ≡ i → ⊥). covered_kept N L held _ _ _ _ _ step o k (inv.2 j p o k (omega arith) e m)) (cases_eq j i),
           ))
-      | in-default w ↦
+      | in_default w ↦
           subst (λ x. P x c.match-arc.waiting) (sym w.marks-is) (subst (P c.loop-place.marks) (sym w.waiting-is) (
             inv.0,
             inv.1,
             λ j p o k h e m. ⊎_elim
-                (λ (x : j ≡ i). absurd (no_arc (arcs n) i (p, o) (subst (λ z. slice_get (arcs n) z ≡ Some (p, o)) x e) w.in-default.ensures))
+                (λ (x : j ≡ i). absurd (no_arc (arcs n) i (p, o) (subst (λ z. slice_get (arcs n) z ≡ Some (p, o)) x e) w.in_default.ensures))
                 (λ (x : j ≡ i → ⊥). inv.2 j p o k (omega arith) e m) (cases_eq j i),
           ))
     ]

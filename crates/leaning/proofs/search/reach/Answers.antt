@@ -14,7 +14,7 @@ use Rattle.leaning.proofs.search.reach.Goals as goal
 
 pub mark-requires : goal.mark-requires
 mark-requires g c =
-    let N = c.node-count.result in
+    let N = c.node_count.result in
     let L = length c.definitions.result.now in
     let a = accepted_parts N L _ _ _ _ _ (sym c.if-not-fit.ensures) in
     let nodes = c.lawful-2.ensures.small in
@@ -24,13 +24,13 @@ mark-requires g c =
     record {
       within = (a.0, a.1);
       ready = ready_first N L c.args.held.now c.clear.new.marks c.over-waiting.result.slots.now c.over-waiting.result.len
-          (omega (arith, c.node-count.ensures, nodes)) (omega (arith, ap length c.definitions.ensures, labels)) a.2 (omega (arith, m, c.clear.ensures.kept))
+          (omega (arith, c.node_count.ensures, nodes)) (omega (arith, ap length c.definitions.ensures, labels)) a.2 (omega (arith, m, c.clear.ensures.kept))
           (omega (arith, s, ap length c.over-waiting.ensures.same)) c.over-waiting.ensures.len;
     }
 
 pub loop-pair-init : goal.loop-pair-init
 loop-pair-init g c =
-    let N = c.node-count.result in
+    let N = c.node_count.result in
     let L = length c.definitions.result.now in
     let held = c.args.held.now in
     let cleared = c.clear.new.marks in
@@ -48,9 +48,9 @@ loop-pair-init g c =
       refl,
     )
 
-pub mark-next-requires : goal.mark-next-requires
-mark-next-requires g c =
-    let N = c.node-count.result in
+pub mark_next-requires : goal.mark_next-requires
+mark_next-requires g c =
+    let N = c.node_count.result in
     let L = length c.definitions.result.now in
     let v = c.pop.new.self in
     let o = c.in-Some.pair in
@@ -59,23 +59,23 @@ mark-next-requires g c =
     let p = (inv.1 (λ n t. true)).wait o (subst (Member o) (sym popped) (member_last (entries v.slots.now v.len) o)) in
     let w = shown_within N L c.loop-pair.marks o.node o.label p in
     record {
-      pairs = (c.node-count.ensures, ap length c.definitions.ensures);
+      pairs = (c.node_count.ensures, ap length c.definitions.ensures);
       within = (w.0, w.1);
       ready = ready_popped N L _ _ _ v.slots.now _ v.len o inv.0 popped (ap length c.in-Some.ensures.same);
     }
 
 pub loop-pair-preserved : goal.loop-pair-preserved
 loop-pair-preserved g c =
-    let N = c.node-count.result in
+    let N = c.node_count.result in
     let L = length c.definitions.result.now in
     let held = c.args.held.now in
     let inv = c.loop-pair.invariant in
-    let step = c.mark-next.ensures.change in
+    let step = c.mark_next.ensures.change in
     let popped = c.in-Some.ensures.change in (
-      c.mark-next.ensures.ready,
+      c.mark_next.ensures.ready,
       (λ passes. searching_more N L held (schema_in c.args.tables.now) (graph_of (g.S.Store.nodes c.args.store.now) (g.S.Store.arcs c.args.store.now) passes)
           c.args.node c.args.label _ _ _ _ c.in-Some.pair
-          (subst (Searching _ _ _ _ _ _) popped (inv.1 passes)) step c.mark-next.ensures.made),
+          (subst (Searching _ _ _ _ _ _) popped (inv.1 passes)) step c.mark_next.ensures.made),
       step.clean inv.2,
       step.rest ∙ inv.3,
     )
@@ -89,10 +89,10 @@ returns g c =
     let marks = c.loop-pair.marks in
     let before = c.args.marks.now in
     let inv = c.loop-pair.invariant in
-    let en = c.node-count.ensures in
+    let en = c.node_count.ensures in
     let el = ap length c.definitions.ensures in
-    let at : (Q : ℕ → ℕ → Type 0) → Q c.node-count.result L → Q N' S.labels = λ Q q. subst (Q N') el (subst (λ x. Q x L) en q) in
-    let cleared : drop (c.node-count.result * L) c.clear.new.marks ≡ drop (c.node-count.result * L) before =
+    let at : (Q : ℕ → ℕ → Type 0) → Q c.node_count.result L → Q N' S.labels = λ Q q. subst (Q N') el (subst (λ x. Q x L) en q) in
+    let cleared : drop (c.node_count.result * L) c.clear.new.marks ≡ drop (c.node_count.result * L) before =
     subst (λ k. drop k c.clear.new.marks ≡ drop k before) c.count.ensures c.clear.ensures.rest in
     record {
       answer = c.if-not-fit.ensures ∙ ap₂ (λ x y. accepted x y (length held) (length before) (length c.args.goals.now) c.args.node c.args.label) en el;
@@ -101,7 +101,7 @@ returns g c =
       rest = at (λ x y. drop (x * y) marks ≡ drop (x * y) before) (inv.3 ∙ c.mark.ensures.change.rest ∙ cleared);
       change = λ _ passes.
           let G = graph_of N' (g.S.Store.arcs c.args.store.now) passes in
-          let end = subst (Searching S G _ _ _ _) c.in-default.ensures.change (inv.1 passes) in
+          let end = subst (Searching S G _ _ _ _) c.in_default.ensures.change (inv.1 passes) in
           at (λ x y. Looked S G (byte_typing x y held) c.args.node c.args.label (byte_typing x y marks))
           (record {
             reached = λ o k m. end.reached (record { node = o; label = k }) m;

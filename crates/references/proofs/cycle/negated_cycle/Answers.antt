@@ -8,4 +8,4 @@ pub returns : goal.returns
 returns c =
     cycle_found (schema_of (held c.args.tables.now)) (in_row c.of-references.result.refers) (in_row c.of-references.result.negated)
     (in_row c.reached-reach.result) c.of-references.ensures.refers c.of-references.ensures.negated
-    c.lawful.ensures.few_labels c.lawful.ensures.known c.reached-reach.ensures c.first-cycle.result c.first-cycle.ensures
+    c.lawful.ensures.few_labels c.lawful.ensures.known c.reached-reach.ensures c.first_cycle.result c.first_cycle.ensures

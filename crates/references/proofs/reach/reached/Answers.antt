@@ -5,7 +5,7 @@ use Rattle.references.proofs.reach.reached.Goals as goal
 
 pub loop-m-init : goal.loop-m-init
 unfolding way
-loop-m-init c = c.with-self-reach.ensures
+loop-m-init c = c.with_self-reach.ensures
 
 pub loop-m-preserved : goal.loop-m-preserved
 unfolding way

@@ -22,6 +22,6 @@ returns c =
     let rs = c.of-references.result.refers in
     let ns = c.of-references.result.negated in
     let law = c.lawful.ensures in (
-      λ e. placed_strata S rs ns c.of-references.ensures law.known (take count bytes) bytes long same (c.are-placed.ensures.0 e),
-      λ st. c.are-placed.ensures.1 (strata_placed S rs ns c.of-references.ensures law.known (take count bytes) bytes long same st),
+      λ e. placed_strata S rs ns c.of-references.ensures law.known (take count bytes) bytes long same (c.are_placed.ensures.0 e),
+      λ st. c.are_placed.ensures.1 (strata_placed S rs ns c.of-references.ensures law.known (take count bytes) bytes long same st),
     )

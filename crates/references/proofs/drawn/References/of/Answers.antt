@@ -16,8 +16,8 @@ returns c =
     } in
     let same : t ≡ held c.args.tables.now =
     read_back _ _ _ _ c.definitions-definitions.ensures c.shapes.ensures c.triples.ensures in
-    subst (λ x. Drawn (schema_of x) c.labels-of-labels-refers.result c.labels-of-labels-negated.result) same
-    (drawn t (subst Lawful (sym same) c.lawful.ensures) c.labels-of-rows-rows.result.mentioned c.labels-of-rows-rows.result.negated
-    c.labels-of-labels-refers.result c.labels-of-labels-negated.result
-    c.labels-of-rows-rows.ensures.mentioned c.labels-of-rows-rows.ensures.negated
-    c.labels-of-labels-refers.ensures c.labels-of-labels-negated.ensures)
+    subst (λ x. Drawn (schema_of x) c.labels_of_labels-refers.result c.labels_of_labels-negated.result) same
+    (drawn t (subst Lawful (sym same) c.lawful.ensures) c.labels_of_rows-rows.result.mentioned c.labels_of_rows-rows.result.negated
+    c.labels_of_labels-refers.result c.labels_of_labels-negated.result
+    c.labels_of_rows-rows.ensures.mentioned c.labels_of_rows-rows.ensures.negated
+    c.labels_of_labels-refers.ensures c.labels_of_labels-negated.ensures)
