@@ -8,8 +8,8 @@ use Rattle.upstream.specs.Chains.{Leads, OnChainOf}
 use Rattle.upstream.proofs.Marking.{grown_like, marked_none, waits_below, searching_one, searching_more, searched}
 use Rattle.upstream.proofs.search.upstream.Goals as goal
 
-pub returns-then-subject-node-count : goal.returns-then-subject-node-count
-returns-then-subject-node-count g c passes n =
+pub returns-then-subject-node_count : goal.returns-then-subject-node_count
+returns-then-subject-node_count g c passes n =
     (λ h. absurd (both_ways _ (marked_none 256 n) h), λ h. let z : c.args.subject < g.S.Store.nodes c.args.store.now = h.0 in absurd (omega arith))
 
 pub loop-node-init : goal.loop-node-init
@@ -25,8 +25,8 @@ loop-node-init g c =
       c.mark.array_long,
     )
 
-pub mark-sources-requires : goal.mark-sources-requires
-mark-sources-requires g c =
+pub mark_sources-requires : goal.mark_sources-requires
+mark_sources-requires g c =
     let w = c.pop.new.self in
     let popped = c.in-Some.ensures.change in
     let e : length (entries c.loop-node.waiting.slots.now c.loop-node.waiting.len) ≡ length (entries w.slots.now w.len) + 1 =
@@ -43,17 +43,17 @@ loop-node-preserved g c =
     ap length popped ∙ length_push _ _ in
     let inv = c.loop-node.invariant in
     let value = c.of-backward.ensures.value c.in-Some.node in
-    let step = c.mark-sources.ensures.change in
+    let step = c.mark_sources.ensures.change in
     let number = step.number in (
       λ passes. searching_more _ _ _ _ _ _ c.in-Some.node (subst (Searching _ _ _) popped (inv.0 passes))
-          (grown_like _ _ _ _ _ _ (λ n. (value n).0) step) (λ n l. c.mark-sources.ensures.made n ((value n).1 l)),
-      omega (arith, c.mark-sources.ensures.kept, ap length c.in-Some.ensures.same),
-      c.mark-sources.array_long,
+          (grown_like _ _ _ _ _ _ (λ n. (value n).0) step) (λ n l. c.mark_sources.ensures.made n ((value n).1 l)),
+      omega (arith, c.mark_sources.ensures.kept, ap length c.in-Some.ensures.same),
+      c.mark_sources.array_long,
     )
 
 pub returns : goal.returns
 returns g c passes n =
     let p = c.loop-node.invariant.0 passes in (
       λ m. (omega arith, p.reaches n m),
-      λ h. searched _ _ _ (subst (Searching _ _ _) c.in-default.ensures.change p) n h.1,
+      λ h. searched _ _ _ (subst (Searching _ _ _) c.in_default.ensures.change p) n h.1,
     )

@@ -14,8 +14,8 @@ returns c =
       answer = sym (cond-false _ _ _ (le-ltb (length c.args.bytes.now) S.labels (omega arith)));
       value = n;
       after =
-          written_strata S c.lawful.ensures.known (length c.definitions-labels.result.now - 0) c.ranks-strata.result c.copy-from-slice.new.self _
-          (omega arith) (omega arith) c.copy-from-slice.ensures.after (c.ranks-strata.ensures c.args.self.now.acyclic);
-      kept = drop-append-drop (length c.definitions-labels.result.now - 0) c.args.bytes.now c.copy-from-slice.new.self _ (omega arith)
-          (c.copy-from-slice.ensures.len ∙ length-take-le (length c.definitions-labels.result.now - 0) c.args.bytes.now (omega arith));
+          written_strata S c.lawful.ensures.known (length c.definitions-labels.result.now - 0) c.ranks-strata.result c.copy_from_slice.new.self _
+          (omega arith) (omega arith) c.copy_from_slice.ensures.after (c.ranks-strata.ensures c.args.self.now.acyclic);
+      kept = drop-append-drop (length c.definitions-labels.result.now - 0) c.args.bytes.now c.copy_from_slice.new.self _ (omega arith)
+          (c.copy_from_slice.ensures.len ∙ length-take-le (length c.definitions-labels.result.now - 0) c.args.bytes.now (omega arith));
     }

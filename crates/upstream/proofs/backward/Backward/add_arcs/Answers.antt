@@ -4,7 +4,7 @@ use Rattle.upstream.specs.declared.backward.Backward.{Backward}
 use Rattle.upstream.specs.Chains.{OnChainOf, Early, Sound}
 use Rattle.upstream.proofs.Chaining.{place_some, place_none, place_all}
 use Rattle.upstream.proofs.backward.Backward.add_arcs.Goals as goal
-use Rattle.upstream.proofs.backward.Backward.add_arcs.Goals.{in-Some, in-default}
+use Rattle.upstream.proofs.backward.Backward.add_arcs.Goals.{in-Some, in_default}
 
 pub add-requires : goal.add-requires
 add-requires g c =
@@ -40,8 +40,8 @@ loop-place-preserved g c =
             (let k = w.add.ensures.count in omega arith),
             place_some arcs node i old mid (OnChainOf e.first e.next e.source) inv.2 _ _ w.in-Some.ensures w.add.ensures.change,
           )
-      | in-default w ↦
-          subst P (sym w.self-is) (inv.0, omega arith, place_none arcs node i old mid mid inv.2 w.in-default.ensures)
+      | in_default w ↦
+          subst P (sym w.self-is) (inv.0, omega arith, place_none arcs node i old mid mid inv.2 w.in_default.ensures)
     ]
 
 pub returns : goal.returns

@@ -13,12 +13,12 @@ loop-node-init g c = (
 pub loop-node-preserved : goal.loop-node-preserved
 loop-node-preserved g c =
     let b = c.loop-node.backward in
-    let d = c.add-arcs.new.self in
+    let d = c.add_arcs.new.self in
     let inv = c.loop-node.invariant in (
-      c.add-arcs.ensures.sound,
-      (let e = c.add-arcs.ensures.count in omega arith),
+      c.add_arcs.ensures.sound,
+      (let e = c.add_arcs.ensures.count in omega arith),
       node_more (g.S.Store.arcs c.args.store.now) c.loop-node.node (OnChainOf b.first b.next b.source) (OnChainOf d.first d.next d.source)
-          inv.2 c.add-arcs.ensures.change,
+          inv.2 c.add_arcs.ensures.change,
     )
 
 pub returns : goal.returns
