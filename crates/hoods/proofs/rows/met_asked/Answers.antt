@@ -26,14 +26,14 @@ loop-r-init c =
     let sets = (schema_of t).sets in
     let P = In (typed (length t.definitions) c.args.typing.now) in
     let arcs = c.args.arcs.now in (
-      filled_none sets P (arcs_of arcs) (flagged_tree c.with-named-needed.result t.triples) c.clear-words.new.words
-          (λ m h. c.clear-words.ensures m (subst (λ n. m < 2 ^ n) (length_arcs arcs) h)),
-      upto_none (λ p. On c.with-named-needed.result p × Met sets P (triple_tree t.triples p) (arcs_of arcs)) 128,
+      filled_none sets P (arcs_of arcs) (flagged_tree c.with_named-needed.result t.triples) c.clear_words.new.words
+          (λ m h. c.clear_words.ensures m (subst (λ n. m < 2 ^ n) (length_arcs arcs) h)),
+      upto_none (λ p. On c.with_named-needed.result p × Met sets P (triple_tree t.triples p) (arcs_of arcs)) 128,
       length-replicate 128 false,
     )
 
-pub find-masks-requires : goal.find-masks-requires
-find-masks-requires c =
+pub find_masks-requires : goal.find_masks-requires
+find_masks-requires c =
     let t = held c.args.tables.now in
     let law = c.lawful.ensures in
     let r = c.loop-r.r in
@@ -59,7 +59,7 @@ loop-r-preserved c =
     let P = In (typed (length t.definitions) c.args.typing.now) in
     let arcs = c.args.arcs.now in
     let r = c.loop-r.r in
-    let needed = c.with-named-needed.result in
+    let needed = c.with_named-needed.result in
     let law = c.lawful.ensures in
     let n = length_arcs arcs in
     let rows = c.triples-row-items.ensures in
@@ -69,16 +69,16 @@ loop-r-preserved c =
     λ words met. Filled sets P (arcs_of arcs) f (r + 1) words × Upto (λ p. On needed p × Met sets P (triple_tree t.triples p) (arcs_of arcs)) (r + 1) met × (length met ≡ 128) in
     elim c.if-needed-r.branch [
       | then-needed-r w ↦
-          (let found = w.find-masks.new.scratch.found in
+          (let found = w.find_masks.new.scratch.found in
           let on : On needed r = w.if-needed-r.true in
           let tells : Tells sets P (arcs_of arcs) (triple_node f (get_or t.triples r Empty)) found =
           subst (λ rows. Tells sets P (arcs_of arcs) (triple_node f (get_or rows r Empty)) found) rows
-          (w.find-masks.ensures f r
+          (w.find_masks.ensures f r
           (subst (λ rows. triple_names (length t.sets) (length t.definitions) r (get_or rows r Empty) ≡ true) (sym rows) (law.triple_rows r l))
           (subst (λ rows. ordered (get_or rows r Empty) ≡ true) (sym rows) (law.in_order r l))
           c.loop-r.invariant.0.told) in
           let tree : triple_node f (get_or t.triples r Empty) ≡ triple_tree t.triples r =
-          flagged_node needed t.triples r l c.with-named-needed.ensures.whole on ∙ sym (triple_unfold (length t.sets) (length t.definitions) t.triples law.triple_rows r l) in
+          flagged_node needed t.triples r l c.with_named-needed.ensures.whole on ∙ sym (triple_unfold (length t.sets) (length t.definitions) t.triples law.triple_rows r l) in
           let here = subst (λ e. Tells sets P (arcs_of arcs) e found) tree tells in
           let last = c.masks-last.result - 1 in
           let place : 2 ^ length (arcs_of arcs) - 1 ≡ last = ap (λ k. 2 ^ k - 1) n ∙ ap (λ k. k - 1) (sym c.masks-last.ensures.value) in
@@ -104,11 +104,11 @@ returns c =
     let t = held c.args.tables.now in
     let sets = (schema_of t).sets in
     let P = In (typed (length t.definitions) c.args.typing.now) in
-    let needed = c.with-named-needed.result in
+    let needed = c.with_named-needed.result in
     let rows : length c.triples-row-items.result.now ≡ length t.triples = ap length c.triples-row-items.ensures in
     let e : c.loop-r.r ≡ length t.triples = omega arith in
     let all = subst (λ q. Upto (λ p. On needed p × Met sets P (triple_tree t.triples p) (arcs_of c.args.arcs.now)) q c.loop-r.met) e c.loop-r.invariant.1 in
     record {
       only = λ p o. let x = (all p).0 o in (x.0, x.1.1);
-      asked = λ p a m. (all p).1 (m.0, (c.with-named-needed.ensures.asked p a, m.1));
+      asked = λ p a m. (all p).1 (m.0, (c.with_named-needed.ensures.asked p a, m.1));
     }

@@ -4,8 +4,8 @@ use Rattle.hoods.proofs.Packing.{Packed, packed_on, packed_off}
 use Rattle.hoods.proofs.words.pack.Goals as goal
 use Rattle.hoods.proofs.words.pack.Goals.{then-c-m, else-c-m}
 
-pub overflow-add-words : goal.overflow-add-words
-overflow-add-words c =
+pub overflow_add-words : goal.overflow_add-words
+overflow_add-words c =
     let q = c.args.row in
     let m = c.loop-m.m in
     let x : get_or c.loop-m.words m 0 < 2 ^ q = subst (λ x. x < 2 ^ q) (sym (c.loop-m.invariant.1 m (omega arith))) (c.requires.below m (omega arith)) in

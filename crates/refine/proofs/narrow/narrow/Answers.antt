@@ -22,11 +22,11 @@ loop-marks-preserved g c =
     let f : g.C.NodeCheck.graph c.loop-marks.check ≡ G = c.loop-marks.invariant.1 in
     let passed =
     at_equal (λ S G.
-    Passed S G c.args.strata.now c.args.wanted.now c.args.stratum c.narrow-marked.result c.loop-marks.marks c.narrow-marked.new.marks c.loop-marks.typing c.narrow-marked.new.typing G.nodes)
-    (g.C.NodeCheck.schema c.loop-marks.check) S (g.C.NodeCheck.graph c.loop-marks.check) G e f c.narrow-marked.ensures.change in (
-      c.narrow-marked.ensures.kept.0 ∙ e,
-      c.narrow-marked.ensures.kept.1 ∙ f,
-      narrowed_trans S G c.args.strata.now c.args.wanted.now c.args.stratum c.args.typing.now c.loop-marks.typing c.narrow-marked.new.typing c.loop-marks.invariant.2 passed.change,
+    Passed S G c.args.strata.now c.args.wanted.now c.args.stratum c.narrow_marked.result c.loop-marks.marks c.narrow_marked.new.marks c.loop-marks.typing c.narrow_marked.new.typing G.nodes)
+    (g.C.NodeCheck.schema c.loop-marks.check) S (g.C.NodeCheck.graph c.loop-marks.check) G e f c.narrow_marked.ensures.change in (
+      c.narrow_marked.ensures.kept.0 ∙ e,
+      c.narrow_marked.ensures.kept.1 ∙ f,
+      narrowed_trans S G c.args.strata.now c.args.wanted.now c.args.stratum c.args.typing.now c.loop-marks.typing c.narrow_marked.new.typing c.loop-marks.invariant.2 passed.change,
       passed.after c.loop-marks.invariant.3,
       omega arith,
     )
@@ -39,10 +39,10 @@ returns g c =
     let f : g.C.NodeCheck.graph c.loop-marks.check ≡ G = c.loop-marks.invariant.1 in
     let passed =
     at_equal (λ S G.
-    Passed S G c.args.strata.now c.args.wanted.now c.args.stratum c.narrow-marked.result c.loop-marks.marks c.narrow-marked.new.marks c.loop-marks.typing c.narrow-marked.new.typing G.nodes)
-    (g.C.NodeCheck.schema c.loop-marks.check) S (g.C.NodeCheck.graph c.loop-marks.check) G e f c.narrow-marked.ensures.change in
+    Passed S G c.args.strata.now c.args.wanted.now c.args.stratum c.narrow_marked.result c.loop-marks.marks c.narrow_marked.new.marks c.loop-marks.typing c.narrow_marked.new.typing G.nodes)
+    (g.C.NodeCheck.schema c.loop-marks.check) S (g.C.NodeCheck.graph c.loop-marks.check) G e f c.narrow_marked.ensures.change in
     record {
-      kept = (c.narrow-marked.ensures.kept.0 ∙ e, c.narrow-marked.ensures.kept.1 ∙ f);
-      change = narrowed_trans S G c.args.strata.now c.args.wanted.now c.args.stratum c.args.typing.now c.loop-marks.typing c.narrow-marked.new.typing c.loop-marks.invariant.2 passed.change;
-      after = settled_stable S G c.args.strata.now c.args.wanted.now c.args.stratum c.narrow-marked.new.marks c.narrow-marked.new.typing (passed.same c.loop-marks-test.false).1 (passed.after c.loop-marks.invariant.3);
+      kept = (c.narrow_marked.ensures.kept.0 ∙ e, c.narrow_marked.ensures.kept.1 ∙ f);
+      change = narrowed_trans S G c.args.strata.now c.args.wanted.now c.args.stratum c.args.typing.now c.loop-marks.typing c.narrow_marked.new.typing c.loop-marks.invariant.2 passed.change;
+      after = settled_stable S G c.args.strata.now c.args.wanted.now c.args.stratum c.narrow_marked.new.marks c.narrow_marked.new.typing (passed.same c.loop-marks-test.false).1 (passed.after c.loop-marks.invariant.3);
     }

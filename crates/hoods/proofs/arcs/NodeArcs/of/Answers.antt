@@ -2,7 +2,7 @@ use Rattle.std.proofs.Common.{◌≡◌, ℕ, ◌+◌, ◌<◌, ◌≤◌, min, 
 use Rattle.std.proofs.lemmas.List.{take_all}
 use Rattle.hoods.proofs.Copies.{read_more, there}
 use Rattle.hoods.proofs.arcs.NodeArcs.of.Goals as goal
-use Rattle.hoods.proofs.arcs.NodeArcs.of.Goals.{in-Some, in-default}
+use Rattle.hoods.proofs.arcs.NodeArcs.of.Goals.{in-Some, in_default}
 
 pub loop-place-preserved : goal.loop-place-preserved
 loop-place-preserved g c =
@@ -19,7 +19,7 @@ loop-place-preserved g c =
             ap (take (i + 1)) e
                 ∙ read_more (0, 0) zs c.loop-place.arcs i w.in-Some.arc h (omega (arith, old.0)) (sym w.in-Some.is ∙ c.arc.ensures) old.1,
           ))
-      | in-default w ↦ absurd (there (0, 0) zs i h (sym w.in-default.is ∙ c.arc.ensures))
+      | in_default w ↦ absurd (there (0, 0) zs i h (sym w.in_default.is ∙ c.arc.ensures))
     ]
 
 pub returns : goal.returns
