@@ -11,19 +11,19 @@ use Rattle.node_check.proofs.Rows.{answered}
 use Rattle.node_check.proofs.answers_of.Goals as goal
 use Rattle.node_check.proofs.answers_of.Goals.{then-wanted-label, else-wanted-label}
 
-pub returns-then-node-node-count : goal.returns-then-node-node-count
-returns-then-node-node-count g c = λ l.
+pub returns-then-node-node_count : goal.returns-then-node-node_count
+returns-then-node-node_count g c = λ l.
     (λ o. absurd (omega (arith, ((upto_none (λ _. ⊥) 32 l).0 o).0)), λ x. absurd (omega (arith, x.1.0)))
 
 pub loop-label-init : goal.loop-label-init
 loop-label-init g c =
-    (upto_none (λ k. On c.args.wanted.now k × On c.shape-rows-holds.result (get_or c.definitions-row-items.result.now k 0)) 32, length-replicate 32 false)
+    (upto_none (λ k. On c.args.wanted.now k × On c.shape_rows-holds.result (get_or c.definitions-row-items.result.now k 0)) 32, length-replicate 32 false)
 
 pub loop-label-preserved : goal.loop-label-preserved
 loop-label-preserved g c =
     let q = c.loop-label.label in
     let defs = c.definitions-row-items.result.now in
-    let holds = c.shape-rows-holds.result in
+    let holds = c.shape_rows-holds.result in
     let wanted = c.args.wanted.now in
     let Kept : List Bool → Type 0 = λ answers. Upto (λ k. On wanted k × On holds (get_or defs k 0)) (q + 1) answers × (length answers ≡ 32) in
     elim c.if-wanted-label.branch [
@@ -43,15 +43,15 @@ returns g c =
     let t = held c.args.tables.now in
     let G = graph (g.S.Store.nodes c.args.store.now) (g.S.Store.arcs c.args.store.now) (g.V.ValueTest.passes c.args.values.now) in
     let defs = c.definitions-row-items.ensures in
-    let holds = c.shape-rows-holds.result in
+    let holds = c.shape_rows-holds.result in
     let wanted = c.args.wanted.now in
     let met = c.met_asked-met.result in
-    let asked = c.asked-rows-asked.result in
+    let asked = c.asked_rows-asked.result in
     let all : c.loop-label.label ≡ length t.definitions = omega (arith, ap length defs) in
     answered t c.lawful.ensures G c.args.typing.now c.args.node wanted asked met holds c.loop-label.answers (omega arith)
-    c.asked-rows-asked.ensures
+    c.asked_rows-asked.ensures
     (subst (λ zs. (p : ℕ) → On met p → Meets t c.args.typing.now zs p) c.of-arcs.ensures c.met_asked-met.ensures.only)
     (subst (λ zs. (p : ℕ) → On asked p → Meets t c.args.typing.now zs p → On met p) c.of-arcs.ensures c.met_asked-met.ensures.asked)
-    c.shape-rows-holds.ensures
+    c.shape_rows-holds.ensures
     (subst (λ k. Upto (λ l. On wanted l × On holds (get_or t.definitions l 0)) k c.loop-label.answers) all
     (subst (λ d. Upto (λ l. On wanted l × On holds (get_or d l 0)) c.loop-label.label c.loop-label.answers) defs c.loop-label.invariant.0))

@@ -9,7 +9,7 @@ returns g c =
     let few : label < length (replicate 32 false) = omega (arith, length-replicate 32 false) in
     let wanted : On (set (replicate 32 false) c.from.result true) label =
     subst (λ k. On (set (replicate 32 false) k true) label) (sym c.from.ensures) (get_or-set_same (replicate 32 false) label true false few) in
-    let all = c.answers-of-answers.ensures label in (
-      λ o. (all.0 (subst (λ k. On c.answers-of-answers.result k) c.from-2.ensures o)).1,
-      λ x. subst (λ k. On c.answers-of-answers.result k) (sym c.from-2.ensures) (all.1 (wanted, x)),
+    let all = c.answers_of-answers.ensures label in (
+      λ o. (all.0 (subst (λ k. On c.answers_of-answers.result k) c.from-2.ensures o)).1,
+      λ x. subst (λ k. On c.answers_of-answers.result k) (sym c.from-2.ensures) (all.1 (wanted, x)),
     )

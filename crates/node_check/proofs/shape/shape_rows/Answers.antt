@@ -6,8 +6,8 @@ use Rattle.node_check.specs.Shapes.{row_holds}
 use Rattle.node_check.proofs.Rows.{names_more, settled_more}
 use Rattle.node_check.proofs.shape.shape_rows.Goals as goal
 
-pub row-holds-requires : goal.row-holds-requires
-row-holds-requires g c =
+pub row_holds-requires : goal.row_holds-requires
+row_holds-requires g c =
     let t = held c.args.tables.now in
     let law = c.lawful.ensures in
     let r = c.loop-r.r in
