@@ -5,12 +5,12 @@ use Rattle.page.specs.Loading.{wide, fan_refusal, answered}
 use Rattle.page.proofs.Checks.{wide_here, wide_past, wide_found, wide_none}
 use Rattle.page.proofs.head.count_arcs.Goals as goal
 
-pub returns-then-fan-gt-MAX-FAN : goal.returns-then-fan-gt-MAX-FAN
-returns-then-fan-gt-MAX-FAN c =
+pub returns-then-fan-gt-MAX_FAN : goal.returns-then-fan-gt-MAX_FAN
+returns-then-fan-gt-MAX_FAN c =
     let fans = c.args.fans.now in
     let i = c.loop-node.node in
     let h : i < length fans = omega arith in
-    let found : wide fans ≡ i = omega (arith, c.loop-node.invariant.2, wide_here fans i h c.if-fan-gt-MAX-FAN.true) in
+    let found : wide fans ≡ i = omega (arith, c.loop-node.invariant.2, wide_here fans i h c.if-fan-gt-MAX_FAN.true) in
     record { answer = wide_found fans i (sum fans) h found; bound = tt }
 
 pub loop-node-preserved : goal.loop-node-preserved
@@ -18,7 +18,7 @@ loop-node-preserved c =
     let fans = c.args.fans.now in
     let i = c.loop-node.node in
     let h : i < length fans = omega arith in
-    let low = c.if-fan-gt-MAX-FAN.false in (
+    let low = c.if-fan-gt-MAX_FAN.false in (
       ap (λ k. k + get_or fans i 0) c.loop-node.invariant.0 ∙ sym (sum_by_more (λ x. x) fans i 0 h),
       omega (arith, c.loop-node.invariant.1, low),
       omega (arith, c.loop-node.invariant.2, wide_past fans i h low),

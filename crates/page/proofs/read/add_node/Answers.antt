@@ -11,21 +11,21 @@ use Rattle.page.proofs.read.add_node.Goals as goal
 pub loop-i-init : goal.loop-i-init
 loop-i-init g c = (none, keeps_none _ _ _, refl)
 
-pub returns-in-err-add-entry : goal.returns-in-err-add-entry
-returns-in-err-add-entry g c =
+pub returns-in_err-add_entry : goal.returns-in_err-add_entry
+returns-in_err-add_entry g c =
     let s = c.args.node in
     let ps = c.args.properties.now in
     let os = c.args.objects.now in
     let i = c.loop-i.i in
     let h : i < length ps = omega arith in
     let before = c.loop-i.invariant in
-    let then = c.in-err-add-entry.ensures in
-    let p = err_from_is_err_and c.from-residual.result c.from-residual.ensures.1 in
+    let then = c.in_err-add_entry.ensures in
+    let p = err_from_is_err_and c.from_residual.result c.from_residual.ensures.1 in
     let from : c.args.start + i ≡ c.args.start + length (of_node s (pairs (take i ps) (take i os))) = ap (λ k. c.args.start + k) (sym (length_node s ps os i (omega arith) c.requires.level)) in
     rw (p.1, p.2)
     (record {
       step = outcome_after _ _ _ (of_node s (pairs ps os)) (of_node s (pairs (take i ps) (take i os))) ((s, get_or ps i 0, get_or os i 0) ∷ []) (of_node s (pairs (drop (suc i) ps) (drop (suc i) os)))
-          c.args.start (c.args.start + i) c.in-err-add-entry.field-0.0 (node_split s ps os i h c.requires.level) from before.0 then.step;
+          c.args.start (c.args.start + i) c.in_err-add_entry.field-0.0 (node_split s ps os i h c.requires.level) from before.0 then.step;
       sound = keeps_next _ _ _ _ _ _ _ _ before.2 before.1 then.sound;
       kept = then.kept ∙ before.2;
     })
@@ -37,8 +37,8 @@ loop-i-preserved g c =
     let os = c.args.objects.now in
     let i = c.loop-i.i in
     let before = c.loop-i.invariant in
-    let then = c.in-ok-add-entry.ensures in (
-      subst (λ (ts : List Spo). Adds (g.A.Validate.ledger c.args.validator.now) ts (g.A.Validate.ledger c.add-entry.new.validator)) (node_more s ps os i (omega arith) c.requires.level) (adds_append before.0 then.step),
+    let then = c.in_ok-add_entry.ensures in (
+      subst (λ (ts : List Spo). Adds (g.A.Validate.ledger c.args.validator.now) ts (g.A.Validate.ledger c.add_entry.new.validator)) (node_more s ps os i (omega arith) c.requires.level) (adds_append before.0 then.step),
       keeps_next _ _ _ _ _ _ _ _ before.2 before.1 then.sound,
       then.kept ∙ before.2,
     )

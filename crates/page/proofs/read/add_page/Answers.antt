@@ -12,19 +12,19 @@ use Rattle.page.proofs.read.add_page.Goals as goal
 pub loop-node-init : goal.loop-node-init
 loop-node-init g c = (refl, none, keeps_none _ _ _, refl)
 
-pub overflow-add-end : goal.overflow-add-end
-overflow-add-end g c =
+pub overflow_add-end : goal.overflow_add-end
+overflow_add-end g c =
     let within = row_within c.args.fans.now c.loop-node.node c.loop-node-test.true in
     omega (arith, within, c.loop-node.invariant.0, c.requires.properties)
 
-pub slice-bounds-add-node-end : goal.slice-bounds-add-node-end
-slice-bounds-add-node-end g c =
+pub slice_bounds-add_node-end : goal.slice_bounds-add_node-end
+slice_bounds-add_node-end g c =
     let within = row_within c.args.fans.now c.loop-node.node c.loop-node-test.true in
     let end : c.loop-node.at + get_or c.args.fans.now c.loop-node.node 0 ≤ length c.args.properties.now = omega (arith, within, c.loop-node.invariant.0, c.requires.properties) in
     search rules
 
-pub slice-bounds-add-node-end-in-loop-node : goal.slice-bounds-add-node-end-in-loop-node
-slice-bounds-add-node-end-in-loop-node g c =
+pub slice_bounds-add_node-end-in-loop-node : goal.slice_bounds-add_node-end-in-loop-node
+slice_bounds-add_node-end-in-loop-node g c =
     let within = row_within c.args.fans.now c.loop-node.node c.loop-node-test.true in
     let end : c.loop-node.at + get_or c.args.fans.now c.loop-node.node 0 ≤ length c.args.objects.now = omega (arith, within, c.loop-node.invariant.0, c.requires.objects) in
     search rules
@@ -33,8 +33,8 @@ slice-bounds-add-node-end-in-loop-node g c =
 cut : (xs : List ℕ) (at f : ℕ) → at + f ≤ length xs → length (take (at + f - at) (drop at xs)) ≡ f
 cut xs at f h = length-take-le (at + f - at) (drop at xs) (simp length-drop (omega arith)) ∙ omega arith
 
-pub add-node-requires : goal.add-node-requires
-add-node-requires g c =
+pub add_node-requires : goal.add_node-requires
+add_node-requires g c =
     let at = c.loop-node.at in
     let f = get_or c.args.fans.now c.loop-node.node 0 in
     let within = row_within c.args.fans.now c.loop-node.node c.loop-node-test.true in
@@ -42,23 +42,23 @@ add-node-requires g c =
     let os = cut c.args.objects.now at f (omega (arith, within, c.loop-node.invariant.0, c.requires.objects)) in
     record { level = os ∙ sym ps; fits = omega (arith, ps, within, c.loop-node.invariant.0, c.requires.properties) }
 
-pub returns-in-err-add-node : goal.returns-in-err-add-node
-returns-in-err-add-node g c =
+pub returns-in_err-add_node : goal.returns-in_err-add_node
+returns-in_err-add_node g c =
     let fans = c.args.fans.now in
     let ps = c.args.properties.now in
     let os = c.args.objects.now in
     let m = c.loop-node.node in
     let at = c.loop-node.at in
     let before = c.loop-node.invariant in
-    let then = c.in-err-add-node.ensures in
-    let p = err_from_is_err_and c.from-residual.result c.from-residual.ensures.1 in
+    let then = c.in_err-add_node.ensures in
+    let p = err_from_is_err_and c.from_residual.result c.from_residual.ensures.1 in
     let row = row_is fans ps os m at (at + get_or fans m 0 - at) before.0 (omega arith) in
     let split = triples_split (length fans) m (rows fans ps os) c.loop-node-test.true in
     let from : at ≡ 0 + length (triples_of m (rows fans ps os)) = omega (arith, before.0, length_triples m (rows fans ps os), rows_total fans ps os c.requires.properties c.requires.objects m (omega arith)) in
-    let stop = subst (λ arcs. Outcome (g.A.Validate.ledger c.loop-node.validator) (of_node m arcs) at (g.A.Validate.ledger c.add-node.new.validator) (Err c.in-err-add-node.field-0.0)) row then.step in
+    let stop = subst (λ arcs. Outcome (g.A.Validate.ledger c.loop-node.validator) (of_node m arcs) at (g.A.Validate.ledger c.add_node.new.validator) (Err c.in_err-add_node.field-0.0)) row then.step in
     rw (p.1, p.2)
     (record {
-      step = outcome_after _ _ _ (triples_of (length fans) (rows fans ps os)) (triples_of m (rows fans ps os)) (of_node m (rows fans ps os m)) split.0 0 at c.in-err-add-node.field-0.0 split.1 from before.1 stop;
+      step = outcome_after _ _ _ (triples_of (length fans) (rows fans ps os)) (triples_of m (rows fans ps os)) (of_node m (rows fans ps os m)) split.0 0 at c.in_err-add_node.field-0.0 split.1 from before.1 stop;
       sound = keeps_next _ _ _ _ _ _ _ _ before.3 before.2 then.sound;
       kept = then.kept ∙ before.3;
     })
@@ -71,9 +71,9 @@ loop-node-preserved g c =
     let m = c.loop-node.node in
     let at = c.loop-node.at in
     let before = c.loop-node.invariant in
-    let then = c.in-ok-add-node.ensures in
+    let then = c.in_ok-add_node.ensures in
     let row = row_is fans ps os m at (at + get_or fans m 0 - at) before.0 (omega arith) in
-    let done = subst (λ arcs. Adds (g.A.Validate.ledger c.loop-node.validator) (of_node m arcs) (g.A.Validate.ledger c.add-node.new.validator)) row then.step in
+    let done = subst (λ arcs. Adds (g.A.Validate.ledger c.loop-node.validator) (of_node m arcs) (g.A.Validate.ledger c.add_node.new.validator)) row then.step in
     let counted : at + get_or fans m 0 ≡ sum (take (m + 1) fans) = ap (λ k. k + get_or fans m 0) before.0 ∙ sym (sum_by_more (λ x. x) fans m 0 c.loop-node-test.true) in (
       counted,
       simp add-one (adds_append before.1 done),

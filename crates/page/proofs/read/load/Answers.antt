@@ -6,10 +6,10 @@ use Rattle.page.proofs.Outcomes.{refused_loads, passes, adds_load, stops_load}
 use Rattle.page.proofs.Restored.{restored}
 use Rattle.page.proofs.read.load.Goals as goal
 
-pub returns-in-err-total : goal.returns-in-err-total
-returns-in-err-total g c =
-    let p = err_from_is_err_and c.from-residual.result c.from-residual.ensures.1 in
-    let step = refused_loads (g.A.Validate.ledger c.args.validator.now) _ _ _ _ c.node-count-nodes.ensures c.in-err-total.ensures.answer in
+pub returns-in_err-total : goal.returns-in_err-total
+returns-in_err-total g c =
+    let p = err_from_is_err_and c.from_residual.result c.from_residual.ensures.1 in
+    let step = refused_loads (g.A.Validate.ledger c.args.validator.now) _ _ _ _ c.node_count-nodes.ensures c.in_err-total.ensures.answer in
     rw (p.1, p.2)
     (record {
       step = step;
@@ -19,18 +19,18 @@ returns-in-err-total g c =
       kept = refl;
     })
 
-pub returns-in-err-add-page : goal.returns-in-err-add-page
-returns-in-err-add-page g c =
+pub returns-in_err-add_page : goal.returns-in_err-add_page
+returns-in_err-add_page g c =
     let bytes = c.args.page.now in
-    let n = c.node-count-nodes.result in
-    let t = c.in-ok-total.total in
-    let head = c.in-ok-total.ensures in
-    let then = c.in-err-add-page.ensures in
+    let n = c.node_count-nodes.result in
+    let t = c.in_ok-total.total in
+    let head = c.in_ok-total.ensures in
+    let then = c.in_err-add_page.ensures in
     let ef : take (2 + n - 2) (drop 2 bytes) ≡ take n (drop 2 bytes) = ap (λ k. take k (drop 2 bytes)) (omega arith) in
     let ep : take (2 + n + t - (2 + n)) (drop (2 + n) bytes) ≡ take t (drop (2 + n) bytes) = ap (λ k. take k (drop (2 + n) bytes)) (omega arith) in
-    let none = passes (g.A.Validate.ledger c.args.validator.now) n t bytes _ _ _ c.node-count-nodes.ensures head.answer head.made ef ep (take_rest bytes (2 + n + t)) in
-    let p = err_from_is_err_and c.from-residual-in-err-add-page.result c.from-residual-in-err-add-page.ensures.1 in
-    let step = stops_load (g.A.Validate.ledger c.args.validator.now) n t bytes _ _ _ c.node-count-nodes.ensures head.answer head.made ef ep (take_rest bytes (2 + n + t)) _ c.in-err-add-page.field-0.0 then.step in
+    let none = passes (g.A.Validate.ledger c.args.validator.now) n t bytes _ _ _ c.node_count-nodes.ensures head.answer head.made ef ep (take_rest bytes (2 + n + t)) in
+    let p = err_from_is_err_and c.from_residual-in_err-add_page.result c.from_residual-in_err-add_page.ensures.1 in
+    let step = stops_load (g.A.Validate.ledger c.args.validator.now) n t bytes _ _ _ c.node_count-nodes.ensures head.answer head.made ef ep (take_rest bytes (2 + n + t)) _ c.in_err-add_page.field-0.0 then.step in
     rw (p.1, p.2)
     (record {
       step = step;
@@ -43,14 +43,14 @@ returns-in-err-add-page g c =
 pub returns : goal.returns
 returns g c =
     let bytes = c.args.page.now in
-    let n = c.node-count-nodes.result in
-    let t = c.in-ok-total.total in
-    let head = c.in-ok-total.ensures in
-    let then = c.in-ok-add-page.ensures in
+    let n = c.node_count-nodes.result in
+    let t = c.in_ok-total.total in
+    let head = c.in_ok-total.ensures in
+    let then = c.in_ok-add_page.ensures in
     let ef : take (2 + n - 2) (drop 2 bytes) ≡ take n (drop 2 bytes) = ap (λ k. take k (drop 2 bytes)) (omega arith) in
     let ep : take (2 + n + t - (2 + n)) (drop (2 + n) bytes) ≡ take t (drop (2 + n) bytes) = ap (λ k. take k (drop (2 + n) bytes)) (omega arith) in
-    let none = passes (g.A.Validate.ledger c.args.validator.now) n t bytes _ _ _ c.node-count-nodes.ensures head.answer head.made ef ep (take_rest bytes (2 + n + t)) in
-    let step = adds_load (g.A.Validate.ledger c.args.validator.now) n t bytes _ _ _ c.node-count-nodes.ensures head.answer head.made ef ep (take_rest bytes (2 + n + t)) _ then.step in
+    let none = passes (g.A.Validate.ledger c.args.validator.now) n t bytes _ _ _ c.node_count-nodes.ensures head.answer head.made ef ep (take_rest bytes (2 + n + t)) in
+    let step = adds_load (g.A.Validate.ledger c.args.validator.now) n t bytes _ _ _ c.node_count-nodes.ensures head.answer head.made ef ep (take_rest bytes (2 + n + t)) _ then.step in
     record {
       step = step;
       restored = restored _ _ _ _ step;

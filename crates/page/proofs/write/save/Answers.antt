@@ -13,6 +13,6 @@ returns-then-page-length g c =
 pub returns : goal.returns
 returns g c =
     let s = c.args.store.now in
-    let both = save_parts c.args.page.now c.write-fans.new.fans c.write-arcs.new.arcs c.node-count-nodes.result c.total.result
-    (g.S.Store.nodes s) (g.S.Store.arcs s) c.node-count-nodes.ensures c.total.ensures c.write-fans.ensures c.write-arcs.ensures c.if-page-length.false in
+    let both = save_parts c.args.page.now c.write_fans.new.fans c.write_arcs.new.arcs c.node_count-nodes.result c.total.result
+    (g.S.Store.nodes s) (g.S.Store.arcs s) c.node_count-nodes.ensures c.total.ensures c.write_fans.ensures c.write_arcs.ensures c.if-page-length.false in
     record { answer = both.0; after = both.1 }

@@ -8,8 +8,8 @@ use Rattle.page.proofs.write.write_arcs.Goals as goal
 pub loop-node-init : goal.loop-node-init
 loop-node-init g c = (refl, sym (laid_none c.args.arcs.now _))
 
-pub write-node-at-requires : goal.write-node-at-requires
-write-node-at-requires g c =
+pub write_node-at-requires : goal.write_node-at-requires
+write_node-at-requires g c =
     let s = c.args.store.now in
     let within = total_within (g.S.Store.arcs s) (g.S.Store.nodes s) c.loop-node.node (omega arith) in
     record { half = c.loop-node.auto.arcs ∙ c.requires; fits = omega (arith, within, c.loop-node.invariant.0) }
@@ -20,8 +20,8 @@ loop-node-preserved g c =
     let n = c.loop-node.node in
     let size : length c.args.arcs.now ≡ length c.loop-node.arcs = sym c.loop-node.auto.arcs in
     simp add-one (
-      c.write-node-at.ensures.value ∙ ap (λ k. k + length (arcs n)) c.loop-node.invariant.0,
-      c.write-node-at.ensures.after c.args.arcs.now (arcs_of n arcs) size (c.loop-node.invariant.0 ∙ sym (length_arcs n arcs)) c.loop-node.invariant.1,
+      c.write_node-at.ensures.value ∙ ap (λ k. k + length (arcs n)) c.loop-node.invariant.0,
+      c.write_node-at.ensures.after c.args.arcs.now (arcs_of n arcs) size (c.loop-node.invariant.0 ∙ sym (length_arcs n arcs)) c.loop-node.invariant.1,
     )
 
 pub returns : goal.returns

@@ -6,13 +6,13 @@ use Rattle.triple.specs.Stores.{total}
 use Rattle.page.specs.Laying.{laid}
 use Rattle.page.proofs.Laid.{nth_object, nth_within, laid_more}
 use Rattle.page.proofs.write.write_node.Goals as goal
-use Rattle.page.proofs.write.write_node.Goals.{in-Some, in-default}
+use Rattle.page.proofs.write.write_node.Goals.{in-Some, in_default}
 
 pub loop-place-init : goal.loop-place-init
 loop-place-init g c = λ buffer done size e start. start ∙ ap (laid buffer _) (sym (append-nil done))
 
-pub overflow-cast-arcs-in-Some : goal.overflow-cast-arcs-in-Some
-overflow-cast-arcs-in-Some g c =
+pub overflow_cast-arcs-in-Some : goal.overflow_cast-arcs-in-Some
+overflow_cast-arcs-in-Some g c =
     let small = nth_object _ (g.S.Store.arcs c.args.store.now c.args.node) c.loop-place.place c.in-Some.property c.in-Some.object (c.lawful.ensures.within c.args.node) (sym c.in-Some.ensures) in
     omega (arith, small, c.lawful.ensures.small)
 
@@ -28,7 +28,7 @@ loop-place-preserved g c = λ buffer done size e start.
           let moved : set (set c.loop-place.arcs (c.args.at + c.loop-place.place) w.in-Some.property) (c.total-total.result + c.args.at + c.loop-place.place) w.in-Some.object
           ≡ set (set (laid buffer half (done ++ take c.loop-place.place arcs)) (c.args.at + c.loop-place.place) w.in-Some.property) (half + c.args.at + c.loop-place.place) w.in-Some.object = cc (inv, c.total-total.ensures) in
           w.arcs-is ∙ moved ∙ put
-      | in-default w ↦ absurd (w.in-default.not-Some _ (c.arc.ensures ∙ slice_get-get_or arcs c.loop-place.place (0, 0) (omega (arith, c.fan-fan.ensures))))
+      | in_default w ↦ absurd (w.in_default.not-Some _ (c.arc.ensures ∙ slice_get-get_or arcs c.loop-place.place (0, 0) (omega (arith, c.fan-fan.ensures))))
     ]
 
 pub returns : goal.returns

@@ -10,12 +10,12 @@ returns-then-answers-calls c = sym (and_left _ _ (lt-leb _ _ c.if-answers-calls.
 
 pub returns-then-left-room : goal.returns-then-left-room
 returns-then-left-room c =
-    let more = lent_more c.args.calls.now c.loop-call.call-index c.room-of-room.result _ (omega arith) c.room-of-room.ensures in
+    let more = lent_more c.args.calls.now c.loop-call.call-index c.room_of-room.result _ (omega arith) c.room_of-room.ensures in
     let short : leb (all_lent c.args.calls.now) c.args.bytes ≡ false = lt-leb _ _ (omega (arith, c.loop-call.invariant, more)) in
     sym (and_right _ _ short)
 
 pub loop-call-preserved : goal.loop-call-preserved
-loop-call-preserved c = omega (arith, c.loop-call.invariant, lent_more c.args.calls.now c.loop-call.call-index c.room-of-room.result _ (omega arith) c.room-of-room.ensures)
+loop-call-preserved c = omega (arith, c.loop-call.invariant, lent_more c.args.calls.now c.loop-call.call-index c.room_of-room.result _ (omega arith) c.room_of-room.ensures)
 
 pub returns : goal.returns
 returns c =

@@ -17,16 +17,16 @@ returns-then-not-fits g c =
       kept = refl;
     }
 
-pub overflow-add-end : goal.overflow-add-end
-overflow-add-end g c =
+pub overflow_add-end : goal.overflow_add-end
+overflow_add-end g c =
     let fits = both_fit c.args.calls.now (length c.args.answers.now) (length c.args.tables.now) c.if-not-fits.ensures in
-    let inside = within c.args.calls.now c.loop-i.i c.loop-i.at c.room-of.result (length c.args.tables.now) _ (omega arith) c.room-of.ensures c.loop-i.invariant.0 fits.1 in
+    let inside = within c.args.calls.now c.loop-i.i c.loop-i.at c.room_of.result (length c.args.tables.now) _ (omega arith) c.room_of.ensures c.loop-i.invariant.0 fits.1 in
     search rules
 
-pub slice-bounds-perform-end : goal.slice-bounds-perform-end
-slice-bounds-perform-end g c =
+pub slice_bounds-perform-end : goal.slice_bounds-perform-end
+slice_bounds-perform-end g c =
     let fits = both_fit c.args.calls.now (length c.args.answers.now) (length c.args.tables.now) c.if-not-fits.ensures in
-    let inside = within c.args.calls.now c.loop-i.i c.loop-i.at c.room-of.result (length c.args.tables.now) _ (omega arith) c.room-of.ensures c.loop-i.invariant.0 fits.1 in
+    let inside = within c.args.calls.now c.loop-i.i c.loop-i.at c.room_of.result (length c.args.tables.now) _ (omega arith) c.room_of.ensures c.loop-i.invariant.0 fits.1 in
     search rules
 
 pub loop-i-preserved : goal.loop-i-preserved
@@ -36,17 +36,17 @@ loop-i-preserved g c =
     let fits = both_fit c.args.calls.now (length c.args.answers.now) (length c.args.tables.now) c.if-not-fits.ensures in
     let in-calls : c.loop-i.i < length calls = omega arith in
     let in-answers : c.loop-i.i < length c.loop-i.answers = omega (arith, fits.0) in
-    let more = lent_more calls c.loop-i.i c.room-of.result _ in-calls c.room-of.ensures in
-    let end : ℕ = c.loop-i.at + c.room-of.result in
+    let more = lent_more calls c.loop-i.i c.room_of.result _ in-calls c.room_of.ensures in
+    let end : ℕ = c.loop-i.at + c.room_of.result in
     let in_tables : end ≤ length c.loop-i.tables = omega (arith, more, inv.0, fits.1) in
     let ends : end ≡ c.loop-i.at + (end - c.loop-i.at) = omega arith in
-    let room : end - c.loop-i.at ≡ c.room-of.result = omega arith in (
+    let room : end - c.loop-i.at ≡ c.room_of.result = omega arith in (
       omega (arith, more, inv.0),
       c.perform.ensures.kept ∙ inv.1,
       drop-set-lt (c.loop-i.i + 1) c.loop-i.answers c.loop-i.i c.perform.result (omega arith) ∙ drop_later c.loop-i.answers c.args.answers.now c.loop-i.i (c.loop-i.i + 1) (omega arith) inv.2,
-      drop_part calls c.loop-i.answers c.loop-i.tables c.perform.new.table c.loop-i.i c.loop-i.at end (end - c.loop-i.at) _ c.perform.result in-calls in-answers in_tables ends (room ∙ c.room-of.ensures) c.perform.auto.table
+      drop_part calls c.loop-i.answers c.loop-i.tables c.perform.new.table c.loop-i.i c.loop-i.at end (end - c.loop-i.at) _ c.perform.result in-calls in-answers in_tables ends (room ∙ c.room_of.ensures) c.perform.auto.table
           ∙ drop_later c.loop-i.tables c.args.tables.now c.loop-i.at end (omega arith) inv.3,
-      turn calls c.loop-i.answers c.loop-i.tables c.perform.new.table c.loop-i.i c.loop-i.at end (end - c.loop-i.at) _ c.perform.result in-calls in-answers in_tables ends (room ∙ c.room-of.ensures) c.perform.auto.table
+      turn calls c.loop-i.answers c.loop-i.tables c.perform.new.table c.loop-i.i c.loop-i.at end (end - c.loop-i.at) _ c.perform.result in-calls in-answers in_tables ends (room ∙ c.room_of.ensures) c.perform.auto.table
           (g.A.Validate.schema c.args.validator.now) (g.A.Validate.schema c.loop-i.validator) inv.1
           (g.A.Validate.ledger c.args.validator.now) (g.A.Validate.ledger c.loop-i.validator) (g.A.Validate.ledger c.perform.new.validator)
           (g.A.Validate.verdicts c.args.validator.now) (g.A.Validate.verdicts c.loop-i.validator) (g.A.Validate.verdicts c.perform.new.validator)

@@ -5,7 +5,7 @@ use Rattle.shapes.specs.Lists.{Member}
 use Rattle.shapes.proofs.Lists.{nth_member}
 use Rattle.checker.proofs.Typings.{passed_none, passed_more, other_object}
 use Rattle.checker.proofs.checker.CheckerNodeCheck.leads_to.Goals as goal
-use Rattle.checker.proofs.checker.CheckerNodeCheck.leads_to.Goals.{in-Some+else-found-object, in-default}
+use Rattle.checker.proofs.checker.CheckerNodeCheck.leads_to.Goals.{in-Some+else-found-object, in_default}
 
 pub loop-place-init : goal.loop-place-init
 loop-place-init g c j p h = absurd (omega arith)
@@ -15,7 +15,7 @@ loop-place-preserved g c =
     passed_more (g.S.Store.arcs c.args.self.now.store.now c.args.node) c.loop-place.place c.args.object c.loop-place.invariant
     (λ p e. elim c.match-arc.branch [
       | in-Some+else-found-object w ↦ other_object c.arc.result w.in-Some.field-0-0 p w.in-Some.found c.args.object w.in-Some.is w.if-found-object.false (c.arc.ensures ∙ e)
-      | in-default w ↦ w.in-default.not-Some (p, c.args.object) (c.arc.ensures ∙ e)
+      | in_default w ↦ w.in_default.not-Some (p, c.args.object) (c.arc.ensures ∙ e)
     ])
 
 pub returns-then-found-object : goal.returns-then-found-object
