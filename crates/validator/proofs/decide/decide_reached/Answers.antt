@@ -20,17 +20,17 @@ returns g c =
     let held = c.args.held.now in
     let wanted = c.reach.new.marks in
     let fits : accepted N S.labels (length held) (length c.args.wanted.now) (length c.args.goals.now) n l ≡ true =
-    and_from _ _ (lt-ltb n N c.requires.within.0) (and_from _ _ (lt-ltb l S.labels c.requires.within.1) (and_from _ _ (le-leb _ _ c.requires.held_long) (and_from _ _ (le-leb _ _ c.requires.wanted_long) (le-leb _ _ c.requires.goals-long)))) in
+    and_from _ _ (lt-ltb n N c.requires.within.0) (and_from _ _ (lt-ltb l S.labels c.requires.within.1) (and_from _ _ (le-leb _ _ c.requires.held_long) (and_from _ _ (le-leb _ _ c.requires.wanted_long) (le-leb _ _ c.requires.goals_long)))) in
     let answer = subst (λ t. c.reach.result ≡ accepted N (schema_of t).labels (length held) (length c.args.wanted.now) (length c.args.goals.now) n l) c.tables.ensures c.reach.ensures.answer in
     let looked = subst (λ t. Looked (schema_of t) G (byte_typing N (schema_of t).labels held) n l (byte_typing N (schema_of t).labels wanted)) c.tables.ensures (c.reach.ensures.change (answer ∙ fits) (g.V.ValueTest.passes c.args.values.now)) in
-    looked_at S G n l (byte_typing N S.labels held) (byte_typing N S.labels wanted) (byte_typing N S.labels c.args.verdicts.now) (byte_typing N S.labels c.decide-wanted.new.held) (byte_typing N S.labels c.decide-wanted.new.verdicts)
-    looked (joined_shown N S.labels wanted held c.decide-wanted.new.held c.decide-wanted.ensures.change) c.decide-wanted.ensures.value
+    looked_at S G n l (byte_typing N S.labels held) (byte_typing N S.labels wanted) (byte_typing N S.labels c.args.verdicts.now) (byte_typing N S.labels c.decide_wanted.new.held) (byte_typing N S.labels c.decide_wanted.new.verdicts)
+    looked (joined_shown N S.labels wanted held c.decide_wanted.new.held c.decide_wanted.ensures.change) c.decide_wanted.ensures.value
 
 pub bounds-held-from : goal.bounds-held-from
 bounds-held-from g c =
     let L = (meaning c.args.schema.now).labels in
-    let at : c.from.result * c.label-count.result + c.from-2.result ≡ place L c.args.goal.node c.args.goal.label =
-    spot c.from.result c.args.goal.node c.label-count.result L c.from-2.result c.args.goal.label c.from.ensures c.label-count.ensures c.from-2.ensures in
+    let at : c.from.result * c.label_count.result + c.from-2.result ≡ place L c.args.goal.node c.args.goal.label =
+    spot c.from.result c.args.goal.node c.label_count.result L c.from-2.result c.args.goal.label c.from.ensures c.label_count.ensures c.from-2.ensures in
     omega (arith, at, place_below (g.S.Store.nodes c.args.store.now) L c.args.goal.node c.args.goal.label c.requires.within.0 c.requires.within.1, c.requires.held_long)
 
 pub returns-then-held-from-eq1 : goal.returns-then-held-from-eq1
@@ -40,6 +40,6 @@ returns-then-held-from-eq1 g c =
     let G = graph N (g.S.Store.arcs c.args.store.now) (g.V.ValueTest.passes c.args.values.now) in
     let n = c.args.goal.node in
     let l = c.args.goal.label in
-    let at = spot c.from.result n c.label-count.result S.labels c.from-2.result l c.from.ensures c.label-count.ensures c.from-2.ensures in
+    let at = spot c.from.result n c.label_count.result S.labels c.from-2.result l c.from.ensures c.label_count.ensures c.from-2.ensures in
     let here = (decides_shown N S.labels c.args.held.now n l).1 (c.requires.within, ap (λ k. get_or c.args.held.now k 0) (sym at) ∙ c.if-held-from-eq1.true) in
     looked_held S G n l (byte_typing N S.labels c.args.held.now) (byte_typing N S.labels c.args.verdicts.now) here

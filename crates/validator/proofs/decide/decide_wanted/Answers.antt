@@ -20,8 +20,8 @@ returns g c =
     let fine : refusal c.strata.result ≡ None = c.strata.ensures.answer ∙ rw (le-ltb 32 S.labels few) refl in
     let stratified = answered c.strata.result fine c.strata.ensures.after in
     let decided = subst (λ t. Decided (schema_of t) G strata c.args.held.now c.args.wanted.now c.args.verdicts.now c.decide.new.typing) c.tables.ensures c.decide.ensures.value in
-    let room : Room (G.nodes * S.labels) S.labels strata c.args.held.now c.args.wanted.now c.args.verdicts.now = record { strata_long = omega arith; held_long = c.requires.held_long; wanted_long = c.requires.wanted_long; typing_long = c.requires.verdicts-long } in
+    let room : Room (G.nodes * S.labels) S.labels strata c.args.held.now c.args.wanted.now c.args.verdicts.now = record { strata_long = omega arith; held_long = c.requires.held_long; wanted_long = c.requires.wanted_long; typing_long = c.requires.verdicts_long } in
     record {
-      change = subst (λ m. Joined m c.args.wanted.now c.args.held.now c.hold.new.held) (ap (λ m. m * c.label-count.result) c.node-count.ensures ∙ ap (λ m. G.nodes * m) c.label-count.ensures) c.hold.ensures;
+      change = subst (λ m. Joined m c.args.wanted.now c.args.held.now c.hold.new.held) (ap (λ m. m * c.label_count.result) c.node_count.ensures ∙ ap (λ m. G.nodes * m) c.label_count.ensures) c.hold.ensures;
       value = widens S G strata c.args.held.now c.args.wanted.now c.args.verdicts.now c.decide.new.typing stratified room decided;
     }

@@ -14,15 +14,15 @@ use Rattle.validator.proofs.Editing.{edited}
 use Rattle.validator.proofs.Refusing.{add_no_subject, add_no_object, add_literal, add_as_put, told_store}
 use Rattle.validator.proofs.calls.ValidatorValidate.add.Goals as goal
 
-pub returns-then-triple-node-count : goal.returns-then-triple-node-count
-returns-then-triple-node-count g c =
+pub returns-then-triple-node_count : goal.returns-then-triple-node_count
+returns-then-triple-node_count g c =
     let v = c.args.self.now in
     let t = c.args.triple in
     let b = book (g.S.Store.nodes v.store) (g.S.Store.capacity v.store) (g.S.Store.arcs v.store) (g.V.ValueTest.literals v.values) (g.V.ValueTest.passes v.values) (meaning v.schema).labels v.held in
     record { step = AddStep.refused (add_no_subject b t.subject t.property t.object (omega arith)); sound = λ σ stratified sound. sound; kept = refl }
 
-pub returns-then-triple-node-count-2 : goal.returns-then-triple-node-count-2
-returns-then-triple-node-count-2 g c =
+pub returns-then-triple-node_count-2 : goal.returns-then-triple-node_count-2
+returns-then-triple-node_count-2 g c =
     let v = c.args.self.now in
     let t = c.args.triple in
     let b = book (g.S.Store.nodes v.store) (g.S.Store.capacity v.store) (g.S.Store.arcs v.store) (g.V.ValueTest.literals v.values) (g.V.ValueTest.passes v.values) (meaning v.schema).labels v.held in
@@ -35,27 +35,27 @@ returns-then-literal g c =
     let b = book (g.S.Store.nodes v.store) (g.S.Store.capacity v.store) (g.S.Store.arcs v.store) (g.V.ValueTest.literals v.values) (g.V.ValueTest.passes v.values) (meaning v.schema).labels v.held in
     record { step = AddStep.refused (add_literal b t.subject t.property t.object (omega arith) (omega arith) (sym c.literal.ensures ∙ c.if-literal.true)); sound = λ σ stratified sound. sound; kept = refl }
 
-pub returns-in-err-put : goal.returns-in-err-put
-returns-in-err-put g c =
+pub returns-in_err-put : goal.returns-in_err-put
+returns-in_err-put g c =
     let v = c.args.self.now in
     let t = c.args.triple in
     let S = meaning v.schema in
     let ledger : g.row.S.Denot → Ledger = λ s. book (g.S.Store.nodes s) (g.S.Store.capacity s) (g.S.Store.arcs s) (g.V.ValueTest.literals v.values) (g.V.ValueTest.passes v.values) S.labels v.held in
-    let p = err_from_is_err_and c.from-residual.result c.from-residual.ensures.1 in
-    let refused : add_refusal (ledger v.store) t.subject t.property t.object ≡ Some (store.code c.in-err-put.field-0.0) =
-    add_as_put (ledger v.store) t.subject t.property t.object (omega arith) (omega arith) (sym c.literal.ensures ∙ c.if-literal.false) ∙ sym c.in-err-put.ensures.answer in
-    let same = sym c.in-err-put.ensures.change in
+    let p = err_from_is_err_and c.from_residual.result c.from_residual.ensures.1 in
+    let refused : add_refusal (ledger v.store) t.subject t.property t.object ≡ Some (store.code c.in_err-put.field-0.0) =
+    add_as_put (ledger v.store) t.subject t.property t.object (omega arith) (omega arith) (sym c.literal.ensures ∙ c.if-literal.false) ∙ sym c.in_err-put.ensures.answer in
+    let same = sym c.in_err-put.ensures.change in
     record {
-      step = subst (λ s. AddStep (ledger v.store) t.subject t.property t.object (told c.from-residual.result) (ledger s)) same
-          (subst (λ r. AddStep (ledger v.store) t.subject t.property t.object r (ledger v.store)) (sym (told_store c.from-residual.result p.0 c.in-err-put.field-0.0 p.1 p.2)) (AddStep.refused refused));
+      step = subst (λ s. AddStep (ledger v.store) t.subject t.property t.object (told c.from_residual.result) (ledger s)) same
+          (subst (λ r. AddStep (ledger v.store) t.subject t.property t.object r (ledger v.store)) (sym (told_store c.from_residual.result p.0 c.in_err-put.field-0.0 p.1 p.2)) (AddStep.refused refused));
       sound = subst (λ s. (σ : ℕ → ℕ) → Stratification S σ → Sound S σ (ledger v.store) v.verdicts → Sound S σ (ledger s) v.verdicts) same (λ σ stratified sound. sound);
       kept = refl;
     }
 
-pub forget-upstream-requires : goal.forget-upstream-requires
-forget-upstream-requires g c =
-    let few : c.label-count.result ≤ 32 = omega (arith, c.lawful.ensures.rows.few_labels) in
-    record { few = few; room = omega (arith, mul-le (g.S.Store.nodes c.put.new.self) c.label-count.result 256 32 c.lawful-3.ensures.small few); within = omega (arith, c.in-ok-put.ensures.kept.0) }
+pub forget_upstream-requires : goal.forget_upstream-requires
+forget_upstream-requires g c =
+    let few : c.label_count.result ≤ 32 = omega (arith, c.lawful.ensures.rows.few_labels) in
+    record { few = few; room = omega (arith, mul-le (g.S.Store.nodes c.put.new.self) c.label_count.result 256 32 c.lawful-3.ensures.small few); within = omega (arith, c.in_ok-put.ensures.kept.0) }
 
 pub returns : goal.returns
 returns g c =
@@ -65,11 +65,11 @@ returns g c =
     let S = meaning v.schema in
     let passes = g.V.ValueTest.passes v.values in
     let ledger = book (g.S.Store.nodes v.store) (g.S.Store.capacity v.store) (g.S.Store.arcs v.store) (g.V.ValueTest.literals v.values) passes S.labels v.held in
-    let after = book (g.S.Store.nodes s) (g.S.Store.capacity s) (g.S.Store.arcs s) (g.V.ValueTest.literals v.values) passes S.labels c.forget-upstream.new.held in
-    let put = c.in-ok-put.ensures in
+    let after = book (g.S.Store.nodes s) (g.S.Store.capacity s) (g.S.Store.arcs s) (g.V.ValueTest.literals v.values) passes S.labels c.forget_upstream.new.held in
+    let put = c.in_ok-put.ensures in
     let elsewhere = added_elsewhere (g.S.Store.arcs v.store) t.subject t.property t.object (g.S.Store.arcs s) put.change in
     let change = edited (g.S.Store.nodes v.store) (g.S.Store.capacity v.store) S.labels (g.S.Store.arcs v.store) (g.V.ValueTest.literals v.values) passes v.held
-    t.subject (g.S.Store.nodes s) (g.S.Store.capacity s) (g.S.Store.arcs s) c.forget-upstream.new.held put.kept c.lawful-2.ensures.apart c.lawful-3.ensures.apart elsewhere c.label-count.result c.label-count.ensures (c.forget-upstream.ensures passes) in
+    t.subject (g.S.Store.nodes s) (g.S.Store.capacity s) (g.S.Store.arcs s) c.forget_upstream.new.held put.kept c.lawful-2.ensures.apart c.lawful-3.ensures.apart elsewhere c.label_count.result c.label_count.ensures (c.forget_upstream.ensures passes) in
     let fine = add_as_put ledger t.subject t.property t.object (omega arith) (omega arith) (sym c.literal.ensures ∙ c.if-literal.false) ∙ sym put.answer in
     record {
       step = AddStep.accepted fine put.change change;
