@@ -19,7 +19,7 @@ pub fn sorted_arcs<S: Store>(
             arcs.push(arc)?;
         }
     }
-    arcs.sort();
+    arcs.sort()?;
     Ok(arcs)
 }
 

@@ -1,4 +1,4 @@
 use Rattle.model.proofs.references.+in_triple.Given as goal
 
-abbrev pub decreases-in-triple : goal.decreases-in-triple
-decreases-in-triple l = l.depth
+abbrev pub decreases-in_triple : goal.decreases-in_triple
+decreases-in_triple l = l.depth
