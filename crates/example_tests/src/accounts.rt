@@ -114,5 +114,5 @@ fn access_at_least_as_often_as_owned(rt: HostRuntime) -> Result<(), Fail> {
         nodes: USERS + ACCOUNTS,
         triples: triples.as_slice(),
     };
-    example.has_typing(rt.alloc(), typing.as_slice())
+    example.has_typing(&rt, rt.alloc(), typing.as_slice())
 }

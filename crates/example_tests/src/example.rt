@@ -4,6 +4,7 @@ use chain::ChainStore;
 use node_check::{Scratch, satisfies};
 use schema::Schema;
 use std::alloc::{AllocError, Global};
+use std::process::Abort;
 use std::test::*;
 use tables::LawfulTables;
 use triple::{Store, Triple};
@@ -54,14 +55,14 @@ impl<'a, V: ValueTest + Copy + Drop> Example<'a, V> {
     }
 
     // A new validator that the triples were added to.
-    pub(crate) fn validator(&self) -> Result<Validator<ChainStore, V>, Fail> {
+    pub(crate) fn validator(&self, rt: &impl Abort) -> Result<Validator<ChainStore, V>, Fail> {
         let mut schema = Schema::new();
-        assert!(schema.accept(&self.draft.draft()).is_ok(), "accept");
+        assert!(rt; schema.accept(&self.draft.draft()).is_ok(), "accept");
         let store = ChainStore::new(self.nodes);
         let mut validator = Validator::new(schema, store, self.values);
         for (subject, property, object) in self.triples {
             let added = validator.add(triple(*subject, *property, *object));
-            assert!(added.is_ok(), "add");
+            assert!(rt; added.is_ok(), "add");
         }
         Ok(validator)
     }
@@ -69,62 +70,68 @@ impl<'a, V: ValueTest + Copy + Drop> Example<'a, V> {
     // A sweep by these strata writes and holds exactly the typing.
     pub(crate) fn sweeps_to(
         &self,
+        rt: &impl Abort,
         heap: Global,
         strata: &[u8],
         typing: &[(u16, u8)],
     ) -> Result<(), Fail> {
-        let mut validator = self.validator()?;
+        let mut validator = self.validator(rt)?;
         let size = self.size();
         let mut table = vec![in heap; MARK; size.saturating_add(1)]?;
         let count = validator.sweep(strata, table.as_mut_slice()).ok();
-        assert_eq!(count, Some(typing.len()), "the number of pairs");
-        assert_eq!(table.get(size).copied(), Some(MARK));
+        assert_eq!(rt; count, Some(typing.len()), "the number of pairs");
+        assert_eq!(rt; table.get(size).copied(), Some(MARK));
         for place in 0..size {
             let (node, label) = self.pair(place);
             let expected = among(typing, node, label);
             let byte = table.get(place).copied();
             let held = validator.held(node, label).ok();
-            assert_eq!(byte, Some(u8::from(expected)), "sweep {node} {label}");
-            assert_eq!(held, Some(Some(expected)), "held {node} {label}");
+            assert_eq!(rt; byte, Some(u8::from(expected)), "sweep {node} {label}");
+            assert_eq!(rt; held, Some(Some(expected)), "held {node} {label}");
         }
         Ok(())
     }
 
     // Looks at all pairs, one after the other, on one validator.
-    fn looks_in_turn(&self, typing: &[(u16, u8)]) -> Result<(), Fail> {
-        let mut validator = self.validator()?;
+    fn looks_in_turn(&self, rt: &impl Abort, typing: &[(u16, u8)]) -> Result<(), Fail> {
+        let mut validator = self.validator(rt)?;
         for place in 0..self.size() {
             let (node, label) = self.pair(place);
             let answer = validator.look(node, label).ok();
             let expected = Some(among(typing, node, label));
-            assert_eq!(answer, expected, "look {node} {label}");
+            assert_eq!(rt; answer, expected, "look {node} {label}");
         }
         Ok(())
     }
 
     // Looks at each pair on a validator of its own, which held nothing before.
-    fn looks_alone(&self, typing: &[(u16, u8)]) -> Result<(), Fail> {
+    fn looks_alone(&self, rt: &impl Abort, typing: &[(u16, u8)]) -> Result<(), Fail> {
         for place in 0..self.size() {
-            let mut validator = self.validator()?;
+            let mut validator = self.validator(rt)?;
             let (node, label) = self.pair(place);
-            assert_eq!(validator.held(node, label).ok(), Some(None));
+            assert_eq!(rt; validator.held(node, label).ok(), Some(None));
             let answer = validator.look(node, label).ok();
             let expected = among(typing, node, label);
-            assert_eq!(answer, Some(expected), "look {node} {label} alone");
-            assert_eq!(validator.held(node, label).ok(), Some(Some(expected)));
+            assert_eq!(rt; answer, Some(expected), "look {node} {label} alone");
+            assert_eq!(rt; validator.held(node, label).ok(), Some(Some(expected)));
         }
         Ok(())
     }
 
     // A sweep by the schema's own strata, and looks at every pair, answer exactly the typing.
-    pub(crate) fn has_typing(&self, heap: Global, typing: &[(u16, u8)]) -> Result<(), Fail> {
+    pub(crate) fn has_typing(
+        &self,
+        rt: &impl Abort,
+        heap: Global,
+        typing: &[(u16, u8)],
+    ) -> Result<(), Fail> {
         let mut strata = [0; 32];
-        let validator = self.validator()?;
+        let validator = self.validator(rt)?;
         let labels = validator.schema().strata(&mut strata).ok();
-        assert_eq!(labels, Some(self.draft.label_count()));
-        self.sweeps_to(heap, &strata, typing)?;
-        self.looks_in_turn(typing)?;
-        self.looks_alone(typing)
+        assert_eq!(rt; labels, Some(self.draft.label_count()));
+        self.sweeps_to(rt, heap, &strata, typing)?;
+        self.looks_in_turn(rt, typing)?;
+        self.looks_alone(rt, typing)
     }
 
     // The typing as a table of bytes.

@@ -174,5 +174,5 @@ fn open_closed_and_extra(rt: HostRuntime) -> Result<(), Fail> {
         (SIX, ANYTHING),
         (A, ANYTHING),
     ];
-    example(rt.alloc())?.has_typing(rt.alloc(), &typing)
+    example(rt.alloc())?.has_typing(&rt, rt.alloc(), &typing)
 }

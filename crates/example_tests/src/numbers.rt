@@ -88,5 +88,5 @@ fn even_and_below_five_or_text(rt: HostRuntime) -> Result<(), Fail> {
         (SIX, ABOVE_FIVE),
         (A, TEXT),
     ];
-    matching(rt.alloc())?.has_typing(rt.alloc(), &typing)
+    matching(rt.alloc())?.has_typing(&rt, rt.alloc(), &typing)
 }

@@ -68,7 +68,7 @@ fn two_correct_typings(rt: HostRuntime) -> Result<(), Fail> {
     assert!(rt; example.is_correct(rt.alloc(), &neither)?);
     assert!(rt; !example.is_correct(rt.alloc(), &unreported)?);
     assert!(rt; example.is_correct(rt.alloc(), &[])?);
-    example.has_typing(rt.alloc(), &both)
+    example.has_typing(&rt, rt.alloc(), &both)
 }
 
 const P: u8 = 0;

@@ -99,7 +99,7 @@ fn an_arc_that_two_rows_admit(rt: HostRuntime) -> Result<(), Fail> {
         (THREE, TO_FOUR),
         (FOUR, TO_FOUR),
     ];
-    example(draft, row, &SHARED)?.has_typing(rt.alloc(), &typing)
+    example(draft, row, &SHARED)?.has_typing(&rt, rt.alloc(), &typing)
 }
 
 // Subject i has i arcs.
@@ -131,5 +131,5 @@ fn two_or_three_arcs(rt: HostRuntime) -> Result<(), Fail> {
         (THREE, TO_FOUR),
         (FOUR, TO_FOUR),
     ];
-    example(draft, row, &COUNTED)?.has_typing(rt.alloc(), &typing)
+    example(draft, row, &COUNTED)?.has_typing(&rt, rt.alloc(), &typing)
 }

@@ -89,7 +89,7 @@ fn example(heap: Global) -> Result<Example<'static, TermTable<'static>>, AllocEr
 fn typing_after_refinement(rt: HostRuntime) -> Result<(), Fail> {
     let example = example(rt.alloc())?;
     assert!(rt; example.is_correct(rt.alloc(), &TYPING)?);
-    example.has_typing(rt.alloc(), &TYPING)
+    example.has_typing(&rt, rt.alloc(), &TYPING)
 }
 
 // Whether a sweep refuses the strata.
@@ -107,7 +107,7 @@ fn strata_of<V: ValueTest + Copy + Drop>(
     rt: &impl Abort,
     example: &Example<'_, V>,
 ) -> Result<(), Fail> {
-    let mut validator = example.validator()?;
+    let mut validator = example.validator(rt)?;
     for strata in [[1, 1, 1, 1], [2, 1, 2, 1], [2, 2, 2, 1], [2, 1, 1, 2]] {
         assert!(rt; is_refused(&mut validator, strata));
     }
@@ -121,8 +121,8 @@ fn strata_of<V: ValueTest + Copy + Drop>(
 #[test]
 fn stratifications(rt: HostRuntime) -> Result<(), Fail> {
     let example = example(rt.alloc())?;
-    example.sweeps_to(rt.alloc(), &[2, 1, 1, 1], &TYPING)?;
-    example.sweeps_to(rt.alloc(), &[3, 1, 1, 2], &TYPING)?;
+    example.sweeps_to(&rt, rt.alloc(), &[2, 1, 1, 1], &TYPING)?;
+    example.sweeps_to(&rt, rt.alloc(), &[3, 1, 1, 2], &TYPING)?;
     strata_of(&rt, &example)
 }
 
@@ -144,7 +144,7 @@ fn held_after_look<V: ValueTest + Copy + Drop>(
     rt: &impl Abort,
     example: &Example<'_, V>,
 ) -> Result<(), Fail> {
-    let mut validator = example.validator()?;
+    let mut validator = example.validator(rt)?;
     assert_eq!(rt; validator.look(N1, L1).ok(), Some(true));
     let not_held = Some(None);
     let yes = Some(Some(true));

@@ -256,7 +256,7 @@ const TYPING: [(u16, u8); 36] = [
 // Nobody is a user or a client alone: the shapes are closed, and Fatima and Emin have the arcs of both.
 #[test]
 fn issue_tracker(rt: HostRuntime) -> Result<(), Fail> {
-    tracker(rt.alloc())?.has_typing(rt.alloc(), &TYPING)
+    tracker(rt.alloc())?.has_typing(&rt, rt.alloc(), &TYPING)
 }
 
 // A client has a number or an affiliation and not both, a user has a name; closed shapes have nothing else.
@@ -264,7 +264,7 @@ fn clients_and_users<V: ValueTest + Copy + Drop>(
     rt: &impl Abort,
     example: &Example<'_, V>,
 ) -> Result<(), Fail> {
-    let mut validator = example.validator()?;
+    let mut validator = example.validator(rt)?;
     assert!(rt;
         validator
             .withdraw(triple(FATIMA, NAME, FATIMA_SMITH))
@@ -301,7 +301,7 @@ fn issues<V: ValueTest + Copy + Drop>(
     rt: &impl Abort,
     example: &Example<'_, V>,
 ) -> Result<(), Fail> {
-    let mut validator = example.validator()?;
+    let mut validator = example.validator(rt)?;
     assert_eq!(rt; validator.look(ISSUE_1, ISSUE).ok(), Some(true));
     assert!(rt;
         validator
