@@ -4,7 +4,7 @@
     tools/compare.py PROGRAM                 on the gate's script and on samples/
     tools/compare.py PROGRAM FIRST LAST      on the random scripts of the seeds from FIRST to LAST
 
-PROGRAM is target/bin/mulberryfin once the crate is proved. Each script is run twice, by the program and by the reference,
+PROGRAM is crates/day/out/day once `rt run day` has built it. Each script is run twice, by the program and by the reference,
 each in a folder of its own; the pages that they save have to hold the same triples.
 """
 import os
@@ -14,11 +14,11 @@ import sys
 import tempfile
 
 sys.dont_write_bytecode = True
-import reference
+import day_reference as reference
 from random_scripts import random_script
 
 TOP = os.path.dirname(os.path.dirname(os.path.abspath(__file__)))
-DATA = os.path.join(TOP, "crates", "mulberryfin", "data")
+DATA = os.path.join(TOP, "crates", "day", "data")
 
 
 def pages(folder):
@@ -71,7 +71,7 @@ def scripts(words):
             yield f"seed {seed}", *random_script(seed)
         return
     samples = os.path.join(TOP, "samples")
-    files = [os.path.join(TOP, "crates", "mulberryfin", "stdin")]
+    files = [os.path.join(TOP, "crates", "day", "stdin")]
     for path in files + [os.path.join(samples, name) for name in sorted(os.listdir(samples))]:
         with open(path) as file:
             yield os.path.relpath(path, TOP), file.read(), {}

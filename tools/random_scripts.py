@@ -1,7 +1,7 @@
 """Long random scripts: several houses, each with a schema that is accepted, over either kind of store."""
 import random
 
-from reference import Draft, Refused, TERMS, TESTS, page_of
+from day_reference import Draft, Refused, TERMS, TESTS, page_of
 
 
 def random_script(seed):
