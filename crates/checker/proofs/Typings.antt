@@ -1,9 +1,9 @@
 -- The typing in a table, read with and without the bound on nodes; arcs by place and by membership. Assumes nothing.
-use Rattle.std.proofs.Common.{◌≡◌, ℕ, zero, suc, ◌+◌, ◌<◌, ◌≤◌, Bool, true, false, ◌&&◌, eqb, ltb, ◌↔◌, List, [], ◌∷◌, length, get_or, Some, None, Option, sym, refl, ap, ◌∙◌, subst, ⊎_elim, arith}
+use Rattle.std.proofs.Common.{◌≡◌, ℕ, zero, suc, ◌+◌, ◌<◌, ◌≤◌, true, ◌↔◌, List, [], ◌∷◌, length, Some, Option, sym, refl, ap, ◌∙◌, subst, ⊎_elim, arith}
 use Rattle.std.specs.List.{slice_get}
 use Rattle.std.proofs.lemmas.Bool.{and_parts, lt-ltb, ltb-true, cases_lt}
 use Rattle.triple.specs.Arcs.{inside}
-use Rattle.shapes.specs.Bytes.{place, byte_typing}
+use Rattle.shapes.specs.Bytes.{byte_typing}
 use Rattle.shapes.specs.Expr.{Schema}
 use Rattle.shapes.specs.Lists.{Member, first, later}
 use Rattle.shapes.specs.Typing.{Graph, In, Satisfied}

@@ -1,5 +1,5 @@
 -- Tables that are not refused are lawful. Assumes nothing.
-use Rattle.std.proofs.Common.{◌≡◌, ℕ, ◌+◌, ◌<◌, ◌≤◌, Bool, true, false, cond, ltb, leb, length, get_or, is_some, Some, None, Option, sym, refl, ap, ◌∙◌, subst, zero-add, arith}
+use Rattle.std.proofs.Common.{◌≡◌, ℕ, ◌<◌, Bool, true, false, cond, length, get_or, is_some, Some, None, Option, refl, subst, zero-add, arith}
 use Rattle.std.proofs.lemmas.Bool.{leb-true, ltb-true}
 use Rattle.draft.specs.Lawful.{Lawful, AreLawful}
 use Rattle.draft.specs.Refusals.{Told, first_from, definition_refusal, shape_refusal, triple_refusal, row_refusal}

@@ -1,8 +1,8 @@
 -- In lawful tables a row stands for its own case over what the rows that it names stand for. Assumes nothing.
-use Rattle.std.proofs.Common.{◌≡◌, ℕ, zero, suc, ◌<◌, ◌≤◌, true, List, length, get_or, refl, ap, ap₂, arith}
+use Rattle.std.proofs.Common.{◌≡◌, ℕ, zero, suc, ◌<◌, true, List, length, get_or, refl, ap, ap₂, arith}
 use Rattle.std.proofs.lemmas.Bool.{and_parts, ltb-true}
-use Rattle.shapes.specs.Expr.{Triple, empty, arc, each, some, times, Shape, value, hood, and, or, not}
-use Rattle.draft.specs.Lawful.{Lawful, Unfolds}
+use Rattle.shapes.specs.Expr.{Triple, each, some, times, Shape, and, or, not}
+use Rattle.draft.specs.Lawful.{Unfolds}
 use Rattle.draft.specs.Refusals.{shape_names, triple_names}
 use Rattle.draft.specs.Rows.{triple_node, triple_within, triple_tree, shape_node, shape_within, shape_tree}
 use Rattle.draft.specs.declared.rows.ShapeRow.{ShapeRow}

@@ -1,14 +1,12 @@
 -- The sets of masks of the triple rows, row by row.
-use Rattle.std.proofs.Common.{◌≡◌, ℕ, zero, suc, ◌+◌, ◌-◌, ◌^◌, ◌<◌, ◌≤◌, Bool, true, false, ◌&&◌, ltb, ◌⊎◌, ◌↔◌, List, [], length, get_or, set, Some as SomeMost, None, Option, sym, refl, ap, ◌∙◌, subst, inl, inr, arith, pow_pos}
+use Rattle.std.proofs.Common.{◌≡◌, ℕ, suc, ◌+◌, ◌-◌, ◌^◌, ◌<◌, ◌≤◌, Bool, true, false, ◌&&◌, ltb, ◌⊎◌, ◌↔◌, List, [], length, get_or, Some as SomeMost, None, Option, sym, refl, ◌∙◌, subst, inl, inr, arith, pow_pos}
 use Rattle.std.proofs.lemmas.Bool.{leb-true, ltb-true, lt-ltb, and_parts, and_from, cases_eq}
 use Rattle.shapes.specs.Expr.{Triple, empty, arc, each, some, times}
 use Rattle.shapes.specs.Meaning.{Arcs, Relation, AtMost, Met}
 use Rattle.shapes.specs.Typing.{Typing, In}
 use Rattle.draft.specs.Refusals.{triple_names, ordered}
-use Rattle.draft.specs.Rows.{triple_node}
 use Rattle.draft.specs.declared.rows.TripleRow.{TripleRow}
 use Rattle.draft.specs.declared.rows.TripleRow.TheVariants.{Empty, Arc, Each, Some, Times}
-use Rattle.draft.proofs.Trees.{triple_unfold}
 use Rattle.masks.specs.Masks.{On, Bit, Splits, Single, Chain}
 use Rattle.masks.proofs.Flags.{either, not_on}
 use Rattle.hoods.specs.Parts.{kept}

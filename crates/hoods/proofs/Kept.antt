@@ -1,5 +1,5 @@
 -- The parts of a list that masks keep: disjoint masks are the splits of the list.
-use Rattle.std.proofs.Common.{◌≡◌, ℕ, zero, suc, ◌+◌, ◌-◌, ◌^◌, ◌<◌, ◌≤◌, Bool, true, false, cond, T, leb, ◌⊎◌, List, [], ◌∷◌, length, sym, refl, ap, ◌∙◌, subst, inl, inr, pow-suc, arith, le→leb, leb→le, pow_pos}
+use Rattle.std.proofs.Common.{◌≡◌, ℕ, suc, ◌+◌, ◌-◌, ◌^◌, ◌<◌, ◌≤◌, Bool, true, false, cond, T, leb, ◌⊎◌, List, [], ◌∷◌, length, sym, refl, ap, ◌∙◌, subst, inl, inr, pow-suc, arith, le→leb, leb→le, pow_pos}
 use native.Mathlib.Decide.{dec_le}
 use Rattle.shapes.specs.Lists.{Split, nil, left as to-left, right as to-right}
 use Rattle.masks.specs.Masks.{Apart, none, out, left, right}

@@ -1,5 +1,5 @@
 -- What sets of masks say of the parts of a list.
-use Rattle.std.proofs.Common.{◌≡◌, ℕ, zero, suc, ◌+◌, ◌-◌, ◌^◌, ◌<◌, ◌≤◌, Bool, ◌⊎◌, ◌↔◌, List, [], ◌∷◌, length, get_or, Option, sym, refl, ap, ◌∙◌, subst, inl, inr, pow-suc, arith, pow_pos, pow_mono}
+use Rattle.std.proofs.Common.{◌≡◌, ℕ, zero, suc, ◌+◌, ◌-◌, ◌^◌, ◌<◌, ◌≤◌, Bool, ◌⊎◌, ◌↔◌, List, [], ◌∷◌, length, get_or, Option, sym, ap, ◌∙◌, subst, inl, inr, pow-suc, arith, pow_pos, pow_mono}
 use native.Mathlib.Decide.{dec_le}
 use lib.Pow.{pow-lt}
 use Rattle.shapes.specs.Lists.{Split, Parts}

@@ -1,5 +1,5 @@
 -- The bits of a number: of none, of one and of a union. Assumes nothing.
-use Rattle.std.proofs.Common.{◌≡◌, ℕ, zero, suc, ◌+◌, ◌-◌, ◌/◌, ◌%◌, ◌^◌, ◌<◌, Bool, false, cond, ◌||◌, eqb, ◌⊎◌, sym, refl, ap, ◌∙◌, ⊎_elim, mod-lt, pow-suc, arith, pow_pos}
+use Rattle.std.proofs.Common.{◌≡◌, ℕ, zero, suc, ◌+◌, ◌-◌, ◌/◌, ◌%◌, ◌^◌, ◌<◌, false, ◌||◌, eqb, sym, refl, ap, ◌∙◌, ⊎_elim, mod-lt, pow-suc, arith, pow_pos}
 use native.Mathlib.Nat.{div_self, div-eq_of_lt, mul-mod_left}
 use lib.Bits.{bit_or}
 use Rattle.std.proofs.lemmas.Nat.{or_shr, or_mod, shl-shr, pow-add, pow_below}

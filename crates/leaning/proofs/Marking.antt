@@ -1,5 +1,5 @@
 -- Marking pairs, one after another, until no-properties waits. Assumes nothing.
-use Rattle.std.proofs.Common.{◌≡◌, ℕ, ◌+◌, ◌*◌, ◌<◌, ◌≤◌, Bool, true, not, eqb, ltb, ◌⊎◌, List, [], ◌∷◌, ◌++◌, length, get_or, take, set, sym, refl, ap, ◌∙◌, subst, inl, inr, ⊎_elim, arith, get_or-set_other, get_or-set_same}
+use Rattle.std.proofs.Common.{◌≡◌, ℕ, ◌+◌, ◌*◌, ◌<◌, ◌≤◌, true, not, eqb, ltb, ◌⊎◌, List, [], ◌∷◌, ◌++◌, length, get_or, take, set, sym, refl, ap, ◌∙◌, subst, inl, inr, ⊎_elim, arith, get_or-set_other, get_or-set_same}
 use Rattle.std.proofs.lemmas.List.{length_push, length-take-le, drop-set-lt}
 use Rattle.std.proofs.lemmas.List.Sums.{count_by-le-length}
 use Rattle.std.proofs.lemmas.Bool.{cases_eq, lt-ltb}
@@ -12,7 +12,6 @@ use Rattle.shapes.proofs.Leaning.{reached_inside}
 use Rattle.stack.specs.Entries.{entries}
 use Rattle.stack.specs.declared.Goal.{Goal}
 use Rattle.shapes.specs.Bytes.{byte_typing}
-use Rattle.leaning.specs.Pairs.{Clean}
 use Rattle.leaning.specs.Search.{unmarked, Marked, Ready, Grown, Searching}
 use Rattle.leaning.proofs.Showing.{cases_goal, shown_within, place_below, shown_same, shown_other, one_fewer}
 

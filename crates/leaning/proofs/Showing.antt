@@ -1,12 +1,12 @@
 -- The bytes of pairs: what is byte-typing when one is written. Assumes nothing.
-use Rattle.std.proofs.Common.{◌≡◌, ℕ, zero, suc, ◌+◌, ◌*◌, ◌/◌, ◌%◌, ◌<◌, ◌≤◌, Bool, true, false, cond, not, ◌&&◌, eqb, ltb, ◌⊎◌, List, [], ◌∷◌, length, get_or, take, drop, set, count_by, sym, refl, ap, ◌∙◌, subst, ap₂, inl, inr, ⊎_elim, arith, get_or-set_other, get_or-set_same}
+use Rattle.std.proofs.Common.{◌≡◌, ℕ, zero, suc, ◌+◌, ◌*◌, ◌/◌, ◌%◌, ◌<◌, ◌≤◌, true, false, cond, not, ◌&&◌, eqb, ltb, ◌⊎◌, List, [], ◌∷◌, length, get_or, take, set, count_by, sym, refl, ap, ◌∙◌, ap₂, inl, inr, ⊎_elim, arith, get_or-set_other, get_or-set_same}
 use Rattle.std.proofs.lemmas.Nat.{mul-add-lt, div-mul-add, mod-mul-add}
 use Rattle.std.proofs.lemmas.List.{length-take-le, get_or-take}
 use Rattle.std.proofs.lemmas.List.Sums.{sum_by-set}
 use Rattle.std.proofs.lemmas.Bool.{cases_eq, cases_Bool, and_parts, and_from, and_left, ltb-true, lt-ltb, eq-eqb, eqb-true, ne_eqb, leb-true}
 use Rattle.stack.specs.declared.Goal.{Goal}
 use Rattle.shapes.specs.Bytes.{byte_typing}
-use Rattle.leaning.specs.Pairs.{Clean, accepted}
+use Rattle.leaning.specs.Pairs.{accepted}
 use Rattle.leaning.specs.Search.{unmarked, Marked}
 
 pub same_goal : (g h : Goal) → g.node ≡ h.node → g.label ≡ h.label → g ≡ h

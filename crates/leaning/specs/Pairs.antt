@@ -2,7 +2,7 @@
 --     Clean count bytes                the first bytes are 0 or 1
 --     accepted ..                      (n, l) is a pair, and slices of these lengths have an element for each pair
 --     graph_of nodes arcs passes       the graph with these nodes, arcs and tests
-use Rattle.std.specs.Prelude.{ℕ, ◌+◌, ◌*◌, ◌<◌, ◌≤◌, Bool, ◌&&◌, List, nat_le, nat_lt, slice_index}
+use Rattle.std.specs.Prelude.{ℕ, ◌*◌, ◌<◌, ◌≤◌, Bool, ◌&&◌, List, nat_le, nat_lt, slice_index}
 use Rattle.shapes.specs.Typing.{Graph}
 
 abbrev pub Clean : ℕ → List ℕ → Type 0

@@ -1,16 +1,16 @@
 -- That each step keeps held verdicts sound. Assumes nothing.
-use Rattle.std.proofs.Common.{◌≡◌, ℕ, ◌<◌, Bool, true, false, not, ◌&&◌, ◌||◌, eqb, ◌⊎◌, ◌↔◌, List, sym, refl, ap, ◌∙◌, subst, inl, inr, ⊎_elim, arith}
+use Rattle.std.proofs.Common.{◌≡◌, ℕ, true, ◌↔◌, List, sym, refl, ap, ◌∙◌, subst}
 use Rattle.std.proofs.lemmas.Bool.{ne_eqb}
-use Rattle.triple.specs.Arcs.{has, distinct}
-use Rattle.triple.specs.Stores.{Lists, present, is, Added, Removed}
+use Rattle.triple.specs.Arcs.{distinct}
+use Rattle.triple.specs.Stores.{Lists, present, Added, Removed}
 use Rattle.shapes.specs.Expr.{Schema}
 use Rattle.shapes.specs.References.{Stratification}
-use Rattle.shapes.specs.Leaning.{Closed, Reached, Reaches, there, Agree}
-use Rattle.shapes.specs.Typing.{Graph, Typing, In, Maximal}
+use Rattle.shapes.specs.Leaning.{Reaches, there, Agree}
+use Rattle.shapes.specs.Typing.{Graph, In}
 use Rattle.shapes.proofs.Leaning.{closed_away, closed_agree}
 use Rattle.shapes.proofs.Locality.{edit_local}
 use Rattle.ledger.specs.Ledger.{Ledger, graph, Verdict}
-use Rattle.ledger.specs.Steps.{Fixed, Edited}
+use Rattle.ledger.specs.Steps.{Edited}
 use Rattle.ledger.specs.Sound.{typing, Sound}
 use Rattle.ledger.proofs.Members.{permuted_from_has}
 

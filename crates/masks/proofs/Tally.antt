@@ -1,5 +1,5 @@
 -- TIMES by sets of part counts: the first part of a mask has its top place.
-use Rattle.std.proofs.Common.{◌≡◌, ℕ, zero, suc, ◌+◌, ◌-◌, ◌*◌, ◌/◌, ◌%◌, ◌^◌, ◌<◌, ◌≤◌, Bool, ◌≢◌, ◌⊎◌, ◌↔◌, List, length, get_or, set, Option, sym, refl, ap, ◌∙◌, subst, inl, inr, pow-suc, arith, get_or-set_other, get_or-set_same, pow_pos, pow_mono}
+use Rattle.std.proofs.Common.{◌≡◌, ℕ, zero, suc, ◌+◌, ◌-◌, ◌*◌, ◌%◌, ◌^◌, ◌<◌, ◌≤◌, Bool, ◌≢◌, ◌⊎◌, ◌↔◌, List, length, get_or, set, Option, sym, refl, ap, ◌∙◌, subst, inl, inr, pow-suc, arith, get_or-set_other, get_or-set_same, pow_pos, pow_mono}
 use native.Mathlib.Decide.{dec_le}
 use lib.Bits.{bit_and, bit_or, and_le_l}
 use lib.Pow.{shr_le}

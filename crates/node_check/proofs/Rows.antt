@@ -1,8 +1,8 @@
 -- Flags of shape rows that are right by those that they name say what the node satisfies.
-use Rattle.std.proofs.Common.{◌≡◌, ℕ, zero, suc, ◌+◌, ◌<◌, ◌≤◌, Bool, true, false, not, ◌&&◌, ◌||◌, ltb, ◌≢◌, ◌↔◌, List, length, get_or, set, Decides, sym, refl, ap, ◌∙◌, subst, ap₂, inl, inr, arith, get_or-set_other, get_or-set_same}
+use Rattle.std.proofs.Common.{◌≡◌, ℕ, zero, suc, ◌+◌, ◌<◌, ◌≤◌, Bool, true, false, not, ◌&&◌, ◌||◌, ltb, ◌≢◌, ◌↔◌, List, length, get_or, set, sym, refl, ap, ◌∙◌, subst, ap₂, inl, inr, arith, get_or-set_other, get_or-set_same}
 use Rattle.std.proofs.lemmas.Bool.{ltb-true, lt-ltb, and_parts, and_from, cases_eq}
 use Rattle.std.proofs.lemmas.Bool.Decides.{Decides-and, Decides-or, Decides-not}
-use Rattle.shapes.specs.Expr.{Triple, Shape}
+use Rattle.shapes.specs.Expr.{Shape}
 use Rattle.shapes.specs.Meaning.{Arcs, Relation, Met, Satisfies}
 use Rattle.shapes.specs.Typing.{Graph, In, Satisfied}
 use Rattle.draft.specs.Lawful.{Lawful}

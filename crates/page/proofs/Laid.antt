@@ -1,12 +1,12 @@
 -- Bytes laid over a buffer, one more at a time; lengths of the parts of a page. Assumes nothing.
-use Rattle.std.proofs.Common.{◌≡◌, ℕ, zero, suc, ◌+◌, ◌-◌, ◌*◌, ◌/◌, ◌%◌, ◌<◌, ◌≤◌, true, false, ltb, List, [], ◌∷◌, ◌++◌, map, length, get_or, take, drop, set, Some, Ok, Err, Result, sym, refl, ap, ◌∙◌, subst, ⊎_elim, add-one, arith}
+use Rattle.std.proofs.Common.{◌≡◌, ℕ, zero, suc, ◌+◌, ◌-◌, ◌*◌, ◌/◌, ◌%◌, ◌<◌, ◌≤◌, true, false, ltb, List, [], ◌∷◌, ◌++◌, length, get_or, take, drop, set, Some, Ok, Err, Result, sym, refl, ap, ◌∙◌, subst, ⊎_elim, add-one, arith}
 use borrow.Rule.Slice.PartMut.{put_mid}
 use Rattle.std.proofs.lemmas.Slice.{take-put_mid, drop-put_mid}
 use Rattle.refusal.specs.declared.Layer.TheVariants.{Page}
 use Rattle.std.specs.List.{slice_get}
 use Rattle.std.proofs.lemmas.Option.{slice_get-get_or}
 use Rattle.std.proofs.lemmas.Bool.{cases_eq, and_parts, ltb-true, lt-ltb, le-ltb, cond-true, cond-false}
-use Rattle.std.proofs.lemmas.List.{take_more, take_more_set, length-take, length-set, drop-set-lt, append_assoc, append-nil, length-append, length-drop, length-take-le, length-map, length_push, drop_more, drop_all, set_at, set-append_left, set-append_right, map_push, map-append, take-append-drop}
+use Rattle.std.proofs.lemmas.List.{take_more, take_more_set, length-take, length-set, drop-set-lt, append_assoc, append-nil, length-append, length-drop, length-take-le, length-map, length_push, drop_more, drop_all, set_at, set-append_left, set-append_right, map_push, take-append-drop}
 use Rattle.triple.specs.Arcs.{Arc, inside}
 use Rattle.triple.specs.Stores.{Lists, total}
 use Rattle.page.specs.Faults.{Told, nothing}

@@ -1,9 +1,8 @@
 -- From what the parts of a load do to what a load does. Assumes nothing.
-use Rattle.std.proofs.Common.{◌≡◌, ℕ, ◌+◌, ◌-◌, ◌*◌, ◌<◌, ◌≤◌, List, length, take, drop, Some, None, Ok, Err, sum, Result, sym, refl, ap, ◌∙◌, subst, zero-add, arith}
-use Rattle.std.proofs.lemmas.List.{length-take-le, length-drop, take_all, take_rest}
+use Rattle.std.proofs.Common.{◌≡◌, ℕ, ◌+◌, List, length, take, drop, Some, None, Ok, Err, sum, sym, ap, ◌∙◌, subst, zero-add, arith}
+use Rattle.std.proofs.lemmas.List.{length-take-le, length-drop, take_all}
 use Rattle.refusal.specs.declared.Layer.TheVariants.{Page}
-use Rattle.refusal.specs.Refusals.{Refusal}
-use Rattle.triple.specs.Stores.{Lists, total}
+use Rattle.triple.specs.Stores.{total}
 use Rattle.ledger.specs.Ledger.{Ledger}
 use Rattle.validate.specs.Faults as validator
 use Rattle.page.specs.declared.fault.Entry.{Entry}

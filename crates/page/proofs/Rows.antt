@@ -1,9 +1,8 @@
 -- The lists that a page's bytes stand for: their lengths, and that they are the page's. Assumes nothing.
-use Rattle.std.proofs.Common.{◌≡◌, ℕ, zero, suc, ◌+◌, ◌-◌, ◌/◌, ◌%◌, ◌<◌, ◌≤◌, List, [], ◌∷◌, ◌++◌, length, get_or, take, drop, sum, sym, refl, ap, ◌∙◌, subst, suc-add, zero-add, add-one, arith, drop-cons}
-use Rattle.std.proofs.lemmas.List.{append-nil, append_assoc, length-take-le, length-drop, take_all, take_more, take-append-drop, drop-drop, length-map, map-append}
+use Rattle.std.proofs.Common.{◌≡◌, ℕ, zero, suc, ◌+◌, ◌/◌, ◌%◌, ◌<◌, ◌≤◌, List, [], ◌∷◌, ◌++◌, length, get_or, take, drop, sum, sym, refl, ap, ◌∙◌, suc-add, zero-add, add-one, arith}
+use Rattle.std.proofs.lemmas.List.{length-take-le, length-drop, take_all, take_more, take-append-drop, drop-drop, length-map, map-append}
 use Rattle.std.proofs.lemmas.List.Sums.{sum_by_more, sum_by-take-le}
-use Rattle.triple.specs.Arcs.{Arc}
-use Rattle.triple.specs.Stores.{Lists, total}
+use Rattle.triple.specs.Stores.{total}
 use Rattle.page.specs.Format.{of_node, fans_of, arcs_of, properties_of, objects_of, page_of}
 use Rattle.page.specs.Reading.{pairs, rows, Whole}
 

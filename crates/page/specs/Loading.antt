@@ -7,7 +7,7 @@
 --     Stops b ts k e b'     the first k adds of ts were accepted, and the next, which is entry k, was refused with e
 --     Loads b bytes r b'    the answer to a load of a page, and the ledger after it
 --     Restores b bytes r b' a page of lawful lists that fit, none of them a literal's, is restored into a ledger without triples
-use Rattle.std.specs.Prelude.{◌≡◌, ℕ, zero, suc, ◌+◌, ◌*◌, ◌≤◌, Bool, true, cond, not, List, [], ◌∷◌, length, take, drop, Some, None, Ok, Err, sum, Option, Result, ◌==◌, nat_lt, slice_index}
+use Rattle.std.specs.Prelude.{◌≡◌, ℕ, suc, ◌+◌, ◌*◌, true, cond, not, List, [], ◌∷◌, length, take, drop, Some, None, Ok, Err, sum, Option, Result, ◌==◌, nat_lt, slice_index}
 use Rattle.refusal.specs.declared.Layer.TheVariants.{Page}
 use Rattle.refusal.specs.Refusals.{Refusal, first}
 use Rattle.triple.specs.Stores.{Lists, present, total, Lawful}

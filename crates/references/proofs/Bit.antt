@@ -1,5 +1,5 @@
 -- The bits of a number: of none, of one, of a union, and how many there are. Assumes nothing.
-use Rattle.std.proofs.Common.{◌≡◌, ℕ, zero, suc, ◌+◌, ◌-◌, ◌/◌, ◌%◌, ◌^◌, ◌<◌, Bool, false, cond, ◌||◌, eqb, ◌⊎◌, sym, refl, ap, ◌∙◌, subst, ap₂, ⊎_elim, add_assoc, mod-lt, pow-suc, div-one, add-one, one-add, arith, pow_pos, shr_lt}
+use Rattle.std.proofs.Common.{◌≡◌, ℕ, zero, suc, ◌+◌, ◌-◌, ◌/◌, ◌%◌, ◌^◌, ◌<◌, Bool, false, cond, ◌||◌, eqb, sym, refl, ap, ◌∙◌, subst, ap₂, ⊎_elim, add_assoc, mod-lt, pow-suc, div-one, add-one, one-add, arith, pow_pos, shr_lt}
 use native.Mathlib.Nat.{div_self, div-eq_of_lt, mul-mod_left}
 use lib.Bits.{bit_or}
 use lib.Count.{ones, ones_step}

@@ -1,5 +1,5 @@
 -- What the search for a negated reference on a cycle finds. Assumes nothing.
-use Rattle.std.proofs.Common.{◌≡◌, ℕ, ◌<◌, ◌≤◌, Bool, true, false, ◌&&◌, ◌⊎◌, Some, None, Decides, Option, sym, ◌∙◌, inl, inr, ⊎_elim, arith, MatchOption}
+use Rattle.std.proofs.Common.{◌≡◌, ℕ, ◌<◌, ◌≤◌, Bool, true, false, ◌&&◌, Some, None, Decides, Option, sym, ◌∙◌, inl, inr, ⊎_elim, arith, MatchOption}
 use Rattle.std.proofs.lemmas.Bool.{and_parts, and_from, both_ways, cases_lt}
 use Rattle.shapes.specs.Expr.{Schema, Shape, value, hood, and, or, not}
 use Rattle.shapes.specs.References.{Mentions, Negates, Refers, Negated, OnCycle, NegatedCycle}

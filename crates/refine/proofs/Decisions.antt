@@ -1,5 +1,5 @@
 -- One stratum after the other, from the verdicts on the held pairs to those on the wanted ones.
-use Rattle.std.proofs.Common.{◌≡◌, ℕ, ◌+◌, ◌<◌, ◌≤◌, true, false, cond, ◌⊎◌, ◌↔◌, List, get_or, sym, refl, ap, ◌∙◌, inl, inr, arith}
+use Rattle.std.proofs.Common.{◌≡◌, ℕ, ◌+◌, ◌<◌, ◌≤◌, true, false, cond, ◌⊎◌, ◌↔◌, List, get_or, sym, ap, ◌∙◌, inl, inr, arith}
 use mathlib.Core.Logic.Iff
 use native.Mathlib.Decide.{dec_lt}
 use Rattle.std.proofs.lemmas.Bool.{cases_Bool, both_ways, cond-true, cond-false, cond_both}

@@ -1,7 +1,7 @@
 -- Which layer and number each fault of a store stands for. Assumes nothing.
 --     code f       the layer and the number of the fault f
 --     refusal r    how the answer r of a put or a take refuses, if it does
-use Rattle.std.specs.Prelude.{ℕ, Some, None, Ok, Err, Option, Result}
+use Rattle.std.specs.Prelude.{Some, None, Ok, Err, Option, Result}
 use Rattle.refusal.specs.declared.Layer.TheVariants.{Store}
 use Rattle.refusal.specs.Refusals.{Refusal}
 use Rattle.triple.specs.declared.fault.StoreFault.{StoreFault}

@@ -4,7 +4,7 @@
 --     Leads arcs n o           n has an arc to o
 --     Early arcs n i o         one of the first i arcs of n leads to o
 --     Sound ..                 chains lead to cells in use, and on to cells that were made before; cells name nodes
-use Rattle.std.specs.Prelude.{◌≡◌, ℕ, suc, ◌<◌, ◌≤◌, List, length, Some, slice_index}
+use Rattle.std.specs.Prelude.{◌≡◌, ℕ, suc, ◌<◌, ◌≤◌, List, Some, slice_index}
 use Rattle.std.specs.List.{slice_get}
 use Rattle.shapes.specs.Lists.{Member}
 

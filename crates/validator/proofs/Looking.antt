@@ -1,16 +1,16 @@
 -- Looks and held verdicts, as steps of the ledger. Assumes nothing.
-use Rattle.std.proofs.Common.{◌≡◌, ℕ, ◌<◌, Bool, true, false, eqb, ◌⊎◌, ◌↔◌, List, get_or, Some, None, Ok, Err, Decides, sym, refl, ap, ◌∙◌, subst, inl, inr, arith}
+use Rattle.std.proofs.Common.{◌≡◌, ℕ, ◌<◌, Bool, eqb, ◌⊎◌, ◌↔◌, List, get_or, Some, None, Ok, Decides, sym, refl, ap, ◌∙◌, subst, inr}
 use Rattle.std.proofs.lemmas.Bool.{eq-eqb, ne_eqb}
 use Rattle.triple.specs.Stores.{Lists}
 use Rattle.shapes.specs.Bytes.{place, byte_typing}
 use Rattle.shapes.specs.Expr.{Schema}
 use Rattle.shapes.specs.References.{Stratification}
-use Rattle.shapes.specs.Leaning.{Closed, Reached, asked}
+use Rattle.shapes.specs.Leaning.{Reached, asked}
 use Rattle.shapes.specs.Typing.{In}
 use Rattle.shapes.proofs.Leaning.{closed_either, reached_closed}
 use Rattle.ledger.specs.Ledger.{Ledger, graph, Verdict}
 use Rattle.ledger.specs.Sound.{Sound}
-use Rattle.ledger.specs.Steps.{LookStep, Looked, HeldStep}
+use Rattle.ledger.specs.Steps.{LookStep, HeldStep}
 use Rattle.validator.specs.Books.{book}
 use Rattle.validator.specs.Marks.{LookedAt}
 use Rattle.validator.proofs.Places.{shown_byte}

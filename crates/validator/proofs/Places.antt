@@ -1,7 +1,7 @@
 -- Pairs by their places in a table of bytes. Assumes nothing.
-use Rattle.std.proofs.Common.{◌≡◌, ℕ, zero, suc, ◌+◌, ◌*◌, ◌/◌, ◌<◌, ◌≤◌, Bool, true, false, cond, not, ◌&&◌, eqb, ltb, ◌⊎◌, ◌↔◌, List, get_or, replicate, Decides, sym, refl, ap, ◌∙◌, subst, inl, inr, ⊎_elim, div-lt_iff_lt-mul, mul-zero, arith}
+use Rattle.std.proofs.Common.{◌≡◌, ℕ, zero, suc, ◌+◌, ◌*◌, ◌/◌, ◌<◌, ◌≤◌, Bool, true, false, cond, ◌&&◌, eqb, ltb, ◌↔◌, List, get_or, replicate, Decides, sym, refl, ap, ◌∙◌, ⊎_elim, div-lt_iff_lt-mul, mul-zero, arith}
 use Rattle.std.proofs.lemmas.Nat.{mul-add-lt, mul-le, div-mul-add}
-use Rattle.std.proofs.lemmas.Bool.{lt-ltb, cases_Bool, and_parts, and_from, ltb-true, both_ways}
+use Rattle.std.proofs.lemmas.Bool.{lt-ltb, cases_Bool}
 use Rattle.std.proofs.lemmas.Bool.Decides.{Decides-and, Decides-eqb, Decides-ltb}
 use Rattle.shapes.specs.Bytes.{place, byte_typing}
 use Rattle.shapes.specs.Typing.{In}

@@ -1,5 +1,5 @@
 -- What the calls refuse, from the tests that they make. Assumes nothing.
-use Rattle.std.proofs.Common.{◌≡◌, ℕ, ◌<◌, ◌≤◌, true, false, leb, Some, None, Ok, Err, Result, refl, ap, ◌∙◌, ⊎_elim, arith}
+use Rattle.std.proofs.Common.{◌≡◌, ℕ, ◌<◌, ◌≤◌, true, false, leb, Some, None, Err, Result, refl, ap, ◌∙◌, ⊎_elim, arith}
 use Rattle.std.proofs.lemmas.Bool.{le-leb, lt-leb, leb-false, cases_Bool}
 use Rattle.refusal.specs.declared.Layer.TheVariants.{Validator}
 use Rattle.refusal.specs.declared.Layer.TheVariants.{Store as Store-layer}

@@ -1,16 +1,16 @@
 -- From verdicts on held pairs to verdicts on more pairs. Assumes nothing.
-use Rattle.std.proofs.Common.{◌≡◌, ℕ, ◌*◌, ◌<◌, ◌≤◌, Bool, true, false, cond, ◌&&◌, ◌||◌, eqb, ltb, ◌⊎◌, ◌↔◌, List, length, get_or, IfOk, Some, None, Ok, Err, Result, sym, refl, ap, ◌∙◌, subst, inl, inr, ⊎_elim, arith}
+use Rattle.std.proofs.Common.{◌≡◌, ℕ, ◌*◌, ◌<◌, Bool, true, false, cond, eqb, ◌⊎◌, ◌↔◌, List, get_or, IfOk, None, Ok, Err, Result, sym, refl, ap, ◌∙◌, inl, inr, ⊎_elim, arith}
 use Rattle.std.proofs.lemmas.Bool.{lt-ltb, eqb-true, cases_Bool, or_cases, or_left, or_right}
 use Rattle.draft.specs.Refusals.{refusal}
 use Rattle.draft.specs.declared.fault.SchemaFault.{SchemaFault}
 use Rattle.shapes.specs.Bytes.{place, byte_typing}
 use Rattle.shapes.specs.Expr.{Schema}
-use Rattle.shapes.specs.Leaning.{Closed, Reached, asked, next, Leans}
+use Rattle.shapes.specs.Leaning.{Closed, Reached, next}
 use Rattle.shapes.specs.References.{Stratification}
 use Rattle.shapes.specs.Typing.{Graph, Typing, In, Maximal}
 use Rattle.shapes.proofs.Leaning.{reached_inside}
 use Rattle.shapes.proofs.Strata.{strata_free}
-use Rattle.refine.specs.Deciding.{Room, stratum, either, Right, Ready, size, table, Decided}
+use Rattle.refine.specs.Deciding.{Room, stratum, either, Right, size, table, Decided}
 use Rattle.leaning.specs.Search.{Looked}
 use Rattle.validator.specs.Marks.{Joined, Widens, LookedAt, AllDecided}
 use Rattle.validator.proofs.Places.{place_below, decides_shown}

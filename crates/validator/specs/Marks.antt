@@ -3,7 +3,7 @@
 --     Joined ..     the bytes of the wanted pairs are set, and no other
 --     Written ..    the bytes of a table are the verdicts, 1 for yes and 0 for no; later bytes stay
 --     Widens ..     from right verdicts on K to right verdicts on K and W
-use Rattle.std.specs.Prelude.{◌≡◌, ℕ, ◌*◌, ◌/◌, ◌<◌, Bool, true, false, cond, ◌&&◌, ◌⊎◌, ◌↔◌, List, ◌==◌, nat_lt, slice_index, slice_index_or}
+use Rattle.std.specs.Prelude.{◌≡◌, ℕ, ◌/◌, ◌<◌, Bool, false, cond, ◌&&◌, ◌⊎◌, ◌↔◌, List, ◌==◌, nat_lt, slice_index, slice_index_or}
 use Rattle.shapes.specs.Expr.{Schema}
 use Rattle.shapes.specs.Leaning.{Closed, Reached}
 use Rattle.shapes.specs.References.{Stratification}

@@ -1,6 +1,5 @@
-use Rattle.std.proofs.Common.{◌≡◌, ℕ, ◌+◌, ◌<◌, ◌≤◌, Bool, true, false, ◌↔◌, List, length, get_or, set, sym, refl, ap, ◌∙◌, subst, arith, length-set}
+use Rattle.std.proofs.Common.{◌≡◌, ℕ, ◌+◌, Bool, true, false, ◌↔◌, List, length, get_or, sym, ap, ◌∙◌, subst, arith, length-set}
 use lib.ListN.{length-replicate}
-use Rattle.draft.specs.Tables.{schema_of}
 use Rattle.tables.specs.Held.{held}
 use Rattle.masks.specs.Masks.{On}
 use Rattle.masks.proofs.Flags.{Upto, upto_none, upto_more}

@@ -1,5 +1,4 @@
 use Rattle.std.proofs.Common.{◌≡◌, length, get_or}
-use Rattle.tables.specs.Held.{held}
 use Rattle.masks.specs.Masks.{On}
 use Rattle.masks.proofs.Flags.{Upto}
 use Rattle.node_check.proofs.answers_of.Given as goal

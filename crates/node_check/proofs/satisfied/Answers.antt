@@ -1,4 +1,4 @@
-use Rattle.std.proofs.Common.{◌<◌, true, false, arith}
+use Rattle.std.proofs.Common.{true, false, arith}
 use lib.ListN.{get_or-replicate}
 use Rattle.node_check.proofs.satisfied.Goals as goal
 

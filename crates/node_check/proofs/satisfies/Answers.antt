@@ -1,4 +1,4 @@
-use Rattle.std.proofs.Common.{◌≡◌, ◌<◌, true, false, length, get_or, set, replicate, sym, ◌∙◌, subst, arith, get_or-set_same}
+use Rattle.std.proofs.Common.{◌<◌, true, false, length, set, replicate, sym, subst, arith, get_or-set_same}
 use lib.ListN.{length-replicate}
 use Rattle.masks.specs.Masks.{On}
 use Rattle.node_check.proofs.satisfies.Goals as goal

@@ -1,9 +1,6 @@
-use Prim.Native.Nat.{ℕ}
-use mathlib.Core.Path.{◌≡◌, refl, sym, ap, subst, ◌∙◌}
-use mathlib.Core.Bool.{true, false}
+use mathlib.Core.Path.{◌≡◌, ap, ◌∙◌}
 use lib.ListN.{length, take}
-use Rattle.shapes.specs.Expr.{Schema}
-use Rattle.ledger.specs.Ledger.{Ledger, graph}
+use Rattle.ledger.specs.Ledger.{graph}
 use Rattle.ledger.specs.Sound.{Sound}
 use Rattle.replay.specs.Runs.{Runs, Best}
 use Rattle.schema.specs.Accepted.{meaning}

@@ -1,8 +1,7 @@
-use Rattle.std.proofs.Common.{◌≡◌, ℕ, ◌+◌, ◌-◌, ◌^◌, ◌<◌, ◌≤◌, Bool, true, false, ◌↔◌, List, length, get_or, set, sym, ap, ◌∙◌, subst, arith, length-set}
+use Rattle.std.proofs.Common.{◌≡◌, ℕ, ◌+◌, ◌-◌, ◌^◌, ◌<◌, Bool, true, false, ◌↔◌, List, length, get_or, set, sym, ap, ◌∙◌, subst, arith, length-set}
 use lib.ListN.{length-replicate}
 use Rattle.shapes.specs.Meaning.{Met}
 use Rattle.shapes.specs.Typing.{In}
-use Rattle.draft.specs.Lawful.{Lawful}
 use Rattle.draft.specs.Refusals.{triple_names, ordered}
 use Rattle.draft.specs.Rows.{triple_node, triple_tree}
 use Rattle.draft.specs.Tables.{schema_of}

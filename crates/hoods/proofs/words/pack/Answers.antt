@@ -1,5 +1,5 @@
 use Rattle.std.proofs.Common.{◌+◌, ◌^◌, ◌<◌, ◌≤◌, get_or, sym, ap, subst, arith, pow_mono}
-use Rattle.std.proofs.lemmas.Nat.{one_shl, pow_below}
+use Rattle.std.proofs.lemmas.Nat.{one_shl}
 use Rattle.hoods.proofs.Packing.{Packed, packed_on, packed_off}
 use Rattle.hoods.proofs.words.pack.Goals as goal
 use Rattle.hoods.proofs.words.pack.Goals.{then-c-m, else-c-m}

@@ -1,4 +1,4 @@
-use Rattle.std.proofs.Common.{length, get_or, ◌∙◌, arith, length-set}
+use Rattle.std.proofs.Common.{get_or, ◌∙◌, arith, length-set}
 use Rattle.shapes.proofs.Leaning.{admits}
 use Rattle.draft.specs.Rows.{shape_tree}
 use Rattle.draft.specs.Sets.{in_set, no_properties}

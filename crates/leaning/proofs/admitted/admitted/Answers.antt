@@ -1,4 +1,4 @@
-use Rattle.std.proofs.Common.{◌≡◌, ℕ, Bool, List, length, get_or, ap, ◌∙◌, arith}
+use Rattle.std.proofs.Common.{ℕ, Bool, List, length, get_or, ap, ◌∙◌, arith}
 use Rattle.shapes.proofs.Leaning.{admits}
 use Rattle.draft.specs.Rows.{shape_tree}
 use Rattle.draft.specs.Sets.{in_set, no_properties}

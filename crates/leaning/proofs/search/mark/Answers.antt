@@ -1,4 +1,4 @@
-use Rattle.std.proofs.Common.{◌≡◌, ◌+◌, ◌*◌, true, [], ◌∷◌, ◌++◌, length, get_or, set, is_ok, sym, ap, ◌∙◌, subst, inr, arith, length-set}
+use Rattle.std.proofs.Common.{◌≡◌, ◌+◌, ◌*◌, true, [], ◌∷◌, ◌++◌, get_or, set, is_ok, sym, ap, ◌∙◌, subst, inr, arith, length-set}
 use Rattle.stack.specs.Entries.{entries, pushed}
 use Rattle.shapes.specs.Bytes.{byte_typing}
 use Rattle.leaning.specs.Search.{Marked, Grown}

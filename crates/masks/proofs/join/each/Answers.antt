@@ -1,7 +1,7 @@
 use Rattle.std.proofs.Common.{◌+◌, sym, subst, arith}
 use Rattle.masks.specs.Steps.{Joined}
 use Rattle.masks.proofs.Flags.{not_on}
-use Rattle.masks.proofs.Scatter.{join_none, join_skip, join_more, join_all}
+use Rattle.masks.proofs.Scatter.{join_skip, join_more}
 use Rattle.masks.proofs.join.each.Goals as goal
 use Rattle.masks.proofs.join.each.Goals.{then-a-s, else-a-s}
 

@@ -1,4 +1,4 @@
-use Rattle.std.proofs.Common.{◌+◌, ◌-◌, ◌*◌, ◌%◌, ◌^◌, get_or, set, sym, refl, subst, arith}
+use Rattle.std.proofs.Common.{◌+◌, ◌-◌, ◌*◌, ◌%◌, ◌^◌, get_or, set, refl, subst, arith}
 use lib.Bits.{bit_or, and_le_l}
 use Rattle.masks.specs.Steps.{More}
 use Rattle.masks.proofs.Apart.{part_whole, part_more}

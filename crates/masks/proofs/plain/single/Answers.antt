@@ -1,4 +1,4 @@
-use Rattle.std.proofs.Common.{◌≡◌, ℕ, ◌+◌, ◌-◌, ◌*◌, ◌%◌, ◌^◌, ◌<◌, ◌≤◌, true, ◌↔◌, sym, subst, arith, pow_mono}
+use Rattle.std.proofs.Common.{◌≡◌, ℕ, ◌+◌, ◌-◌, ◌*◌, ◌%◌, ◌^◌, ◌<◌, ◌≤◌, ◌↔◌, sym, subst, arith, pow_mono}
 use Rattle.std.proofs.lemmas.Nat.{one_shl, pow_below}
 use Rattle.masks.specs.Masks.{On, Among}
 use Rattle.masks.proofs.Flags.{either, not_on, among_more, among_set}

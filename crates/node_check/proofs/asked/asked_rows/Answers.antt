@@ -1,4 +1,4 @@
-use Rattle.std.proofs.Common.{◌≡◌, ℕ, ◌<◌, length, get_or, subst, arith}
+use Rattle.std.proofs.Common.{ℕ, ◌<◌, length, get_or, subst, arith}
 use Rattle.draft.specs.declared.rows.ShapeRow.TheVariants.{Value}
 use Rattle.tables.specs.Held.{held}
 use Rattle.masks.specs.Masks.{On}

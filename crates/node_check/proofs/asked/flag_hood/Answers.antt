@@ -1,4 +1,4 @@
-use Rattle.std.proofs.Common.{◌≡◌, ◌<◌, true, ◌⊎◌, ◌↔◌, length, set, sym, refl, subst, arith}
+use Rattle.std.proofs.Common.{◌≡◌, ◌<◌, true, ◌⊎◌, ◌↔◌, set, sym, refl, subst, arith}
 use Rattle.masks.specs.Masks.{On}
 use Rattle.hoods.proofs.Flagged.{flag_set, same_right}
 use Rattle.node_check.specs.Named.{Hoods}

@@ -1,4 +1,4 @@
-use Rattle.std.proofs.Common.{◌≡◌, ℕ, ◌<◌, true, ◌⊎◌, ◌↔◌, length, set, sym, refl, ap, ◌∙◌, subst, inl, inr, ⊎_elim, arith}
+use Rattle.std.proofs.Common.{◌≡◌, ◌<◌, true, ◌⊎◌, ◌↔◌, set, sym, refl, subst, inl, inr, arith}
 use Rattle.masks.specs.Masks.{On}
 use Rattle.node_check.specs.Named.{Names}
 use Rattle.hoods.proofs.Flagged.{flag_set, flag_two, same_right}

@@ -1,4 +1,4 @@
-use Rattle.std.proofs.Common.{◌≡◌, ℕ, ◌+◌, ◌<◌, Bool, true, List, length, get_or, set, sym, ap, ◌∙◌, subst, arith, length-set}
+use Rattle.std.proofs.Common.{◌≡◌, ◌+◌, ◌<◌, Bool, true, List, length, get_or, sym, ap, ◌∙◌, subst, arith, length-set}
 use Rattle.tables.specs.Held.{held}
 use Rattle.node_check.proofs.Naming.{Defined, defined_more, defined_skip}
 use Rattle.node_check.proofs.asked.wanted_definitions.Goals as goal

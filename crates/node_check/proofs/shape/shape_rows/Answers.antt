@@ -1,4 +1,4 @@
-use Rattle.std.proofs.Common.{◌≡◌, ℕ, ◌+◌, ◌<◌, ◌≤◌, true, length, get_or, sym, ap, ◌∙◌, subst, arith, length-set}
+use Rattle.std.proofs.Common.{◌≡◌, ◌<◌, true, length, get_or, sym, ap, ◌∙◌, subst, arith, length-set}
 use Rattle.draft.specs.Refusals.{shape_names}
 use Rattle.draft.specs.declared.rows.ShapeRow.TheVariants.{Value}
 use Rattle.tables.specs.Held.{held}

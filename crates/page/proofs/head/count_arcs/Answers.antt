@@ -1,7 +1,7 @@
-use Rattle.std.proofs.Common.{◌≡◌, ℕ, ◌+◌, ◌*◌, ◌<◌, ◌≤◌, length, get_or, take, drop, Ok, sum, sym, refl, ap, ◌∙◌, arith}
+use Rattle.std.proofs.Common.{◌≡◌, ◌+◌, ◌<◌, length, get_or, Ok, sum, sym, ap, ◌∙◌, arith}
 use Rattle.std.proofs.lemmas.List.{take_all, drop_all}
 use Rattle.std.proofs.lemmas.List.Sums.{sum_by_more}
-use Rattle.page.specs.Loading.{wide, fan_refusal, answered}
+use Rattle.page.specs.Loading.{wide}
 use Rattle.page.proofs.Checks.{wide_here, wide_past, wide_found, wide_none}
 use Rattle.page.proofs.head.count_arcs.Goals as goal
 

@@ -1,10 +1,10 @@
-use Rattle.std.proofs.Common.{◌≡◌, ℕ, suc, ◌+◌, ◌-◌, ◌<◌, ◌≤◌, List, [], ◌∷◌, ◌++◌, length, get_or, take, drop, Ok, Err, sum, sym, refl, ap, ◌∙◌, subst, add-one, arith, rules}
+use Rattle.std.proofs.Common.{◌≡◌, ℕ, ◌+◌, ◌-◌, ◌≤◌, List, length, get_or, take, drop, Err, sum, sym, refl, ap, ◌∙◌, subst, add-one, arith, rules}
 use Rattle.std.proofs.lemmas.List.{length-take-le, length-drop}
 use Rattle.std.proofs.lemmas.Result.{err_from_is_err_and}
 use Rattle.std.proofs.lemmas.List.Sums.{sum_by_more}
-use Rattle.page.specs.Format.{Spo, of_node, triples_of}
+use Rattle.page.specs.Format.{of_node, triples_of}
 use Rattle.page.specs.Loading.{Adds, none}
-use Rattle.page.specs.Reading.{Outcome, pairs, rows}
+use Rattle.page.specs.Reading.{Outcome, rows}
 use Rattle.page.proofs.Adding.{adds_append, outcome_after, keeps_none, keeps_next, length_triples, triples_split}
 use Rattle.page.proofs.Rows.{row_within, row_is, rows_total}
 use Rattle.page.proofs.read.add_page.Goals as goal

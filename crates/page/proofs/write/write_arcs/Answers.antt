@@ -1,6 +1,6 @@
-use Rattle.std.proofs.Common.{◌≡◌, ◌+◌, ◌<◌, ◌≤◌, length, sym, refl, ap, ◌∙◌, add-one, arith}
+use Rattle.std.proofs.Common.{◌≡◌, ◌+◌, length, sym, refl, ap, ◌∙◌, add-one, arith}
 use Rattle.triple.specs.Stores.{total}
-use Rattle.page.specs.Format.{arcs_of, properties_of, objects_of}
+use Rattle.page.specs.Format.{arcs_of}
 use Rattle.page.specs.Laying.{laid}
 use Rattle.page.proofs.Laid.{laid_none, laid_all, length_arcs, total_within}
 use Rattle.page.proofs.write.write_arcs.Goals as goal

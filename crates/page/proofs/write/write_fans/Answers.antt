@@ -1,4 +1,4 @@
-use Rattle.std.proofs.Common.{◌≡◌, ◌<◌, length, set, sym, refl, ap, ◌∙◌, add-one, arith}
+use Rattle.std.proofs.Common.{◌≡◌, length, set, ap, ◌∙◌, add-one, arith}
 use Rattle.page.specs.Format.{fans_of, over}
 use Rattle.page.proofs.Laid.{over_push, over_whole, length_fans}
 use Rattle.page.proofs.write.write_fans.Goals as goal

@@ -1,10 +1,10 @@
-use Rattle.std.proofs.Common.{◌≡◌, ℕ, ◌+◌, ◌≤◌, ◌++◌, length, take, set, Some, sym, refl, ap, ◌∙◌, arith}
+use Rattle.std.proofs.Common.{◌≡◌, ◌+◌, ◌++◌, take, set, Some, sym, ap, ◌∙◌, arith}
 use Rattle.std.proofs.lemmas.Option.{slice_get-get_or}
 use Rattle.std.proofs.lemmas.List.{append-nil, take_all}
 use Rattle.std.specs.List.{slice_get}
 use Rattle.triple.specs.Stores.{total}
 use Rattle.page.specs.Laying.{laid}
-use Rattle.page.proofs.Laid.{nth_object, nth_within, laid_more}
+use Rattle.page.proofs.Laid.{nth_object, laid_more}
 use Rattle.page.proofs.write.write_node.Goals as goal
 use Rattle.page.proofs.write.write_node.Goals.{in-Some, in_default}
 

@@ -1,4 +1,4 @@
-use Rattle.std.proofs.Common.{◌-◌, arith}
+use Rattle.std.proofs.Common.{arith}
 use Rattle.rows.proofs.Tables.{take_front}
 use Rattle.rows.proofs.scans.front.Goals as goal
 

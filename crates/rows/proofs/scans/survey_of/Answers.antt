@@ -1,7 +1,6 @@
-use Rattle.std.proofs.Common.{◌≡◌, ℕ, ◌+◌, ◌<◌, ◌≤◌, Bool, true, false, cond, ◌||◌, ◌⊎◌, List, [], ◌∷◌, ◌++◌, length, get_or, take, Some, None, Option, sym, refl, ap, ◌∙◌, subst, ⊎_elim, arith, rules, MatchOption}
+use Rattle.std.proofs.Common.{◌≡◌, ◌+◌, ◌<◌, false, cond, ◌||◌, length, get_or, take, sym, ap, ◌∙◌, subst, arith, MatchOption}
 use Rattle.std.proofs.lemmas.List.{take_more, take_all}
 use Rattle.triple.specs.Arcs.{has}
-use Rattle.rows.specs.declared.row.Row.{Row}
 use Rattle.rows.specs.Table.{free, of, holds, used, arcs_in}
 use Rattle.rows.proofs.Steps.{bit_most, has_push, fan_push, vacant_more}
 use Rattle.rows.proofs.scans.survey_of.Goals as goal

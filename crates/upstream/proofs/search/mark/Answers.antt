@@ -1,4 +1,4 @@
-use Rattle.std.proofs.Common.{◌≡◌, true, [], ◌∷◌, ◌++◌, length, set, is_ok, sym, refl, ap, ◌∙◌, subst, arith, get_or-set_same}
+use Rattle.std.proofs.Common.{◌≡◌, true, [], ◌∷◌, ◌++◌, set, is_ok, sym, refl, ap, ◌∙◌, subst, arith, get_or-set_same}
 use Rattle.stack.specs.Entries.{entries, pushed}
 use Rattle.upstream.specs.Search.{Grown}
 use Rattle.upstream.proofs.Marking.{grown_new, grown_none, slot_free}

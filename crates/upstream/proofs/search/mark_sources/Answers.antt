@@ -1,9 +1,8 @@
-use Rattle.std.proofs.Common.{◌≡◌, ℕ, suc, ◌-◌, true, ◌⊎◌, get_or, sym, refl, ap, ◌∙◌, subst, inl, inr, ⊎_elim, arith}
-use Rattle.stack.specs.Entries.{entries}
+use Rattle.std.proofs.Common.{◌≡◌, suc, ◌-◌, get_or, sym, ap, ◌∙◌, subst, inl, inr, ⊎_elim, arith}
 use Rattle.upstream.specs.Chains.{On, here, after, OnChainOf}
 use Rattle.upstream.specs.Search.{marked}
 use Rattle.upstream.proofs.Chaining.{on_cell, on_none}
-use Rattle.upstream.proofs.Marking.{grown_none, grown_then, grown_like}
+use Rattle.upstream.proofs.Marking.{grown_then, grown_like}
 use Rattle.upstream.proofs.search.mark_sources.Goals as goal
 
 pub loop-at-preserved : goal.loop-at-preserved

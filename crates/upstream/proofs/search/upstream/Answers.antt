@@ -1,10 +1,9 @@
-use Rattle.std.proofs.Common.{◌≡◌, ℕ, ◌+◌, ◌<◌, ◌≤◌, true, false, not, [], ◌∷◌, ◌++◌, length, take, replicate, sym, refl, ap, ◌∙◌, subst, arith}
+use Rattle.std.proofs.Common.{◌≡◌, ◌+◌, ◌<◌, ◌≤◌, true, false, not, [], length, replicate, ap, ◌∙◌, subst, arith}
 use Rattle.std.proofs.lemmas.List.{length_push}
 use Rattle.std.proofs.lemmas.List.Sums.{count_by-le-length}
 use Rattle.std.proofs.lemmas.Bool.{both_ways}
 use Rattle.stack.specs.Entries.{entries}
-use Rattle.upstream.specs.Search.{graph_of, unmarked, Searching, Grown}
-use Rattle.upstream.specs.Chains.{Leads, OnChainOf}
+use Rattle.upstream.specs.Search.{unmarked, Searching, Grown}
 use Rattle.upstream.proofs.Marking.{grown_like, marked_none, waits_below, searching_one, searching_more, searched}
 use Rattle.upstream.proofs.search.upstream.Goals as goal
 

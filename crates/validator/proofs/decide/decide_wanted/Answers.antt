@@ -1,10 +1,10 @@
-use Rattle.std.proofs.Common.{◌≡◌, ◌*◌, ◌≤◌, ltb, length, None, sym, refl, ap, ◌∙◌, subst, arith}
+use Rattle.std.proofs.Common.{◌≡◌, ◌*◌, ◌≤◌, length, None, refl, ap, ◌∙◌, subst, arith}
 use Rattle.std.proofs.lemmas.Bool.{le-ltb}
 use Rattle.node_check.specs.Answers.{graph}
 use Rattle.draft.specs.Refusals.{refusal}
 use Rattle.draft.specs.Tables.{schema_of}
 use Rattle.refine.specs.Deciding.{Room, Decided}
-use Rattle.schema.specs.Accepted.{accepted, meaning}
+use Rattle.schema.specs.Accepted.{meaning}
 use Rattle.validator.specs.Marks.{Joined}
 use Rattle.validator.proofs.Widening.{answered, widens}
 use Rattle.validator.proofs.decide.decide_wanted.Goals as goal

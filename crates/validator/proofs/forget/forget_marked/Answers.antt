@@ -1,4 +1,4 @@
-use Rattle.std.proofs.Common.{ℕ, ◌*◌, ◌/◌, ◌<◌, arith, rules}
+use Rattle.std.proofs.Common.{arith}
 use Rattle.validator.proofs.Places.{row_below}
 use Rattle.validator.proofs.forget.forget_marked.Goals as goal
 

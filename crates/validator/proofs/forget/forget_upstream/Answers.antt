@@ -1,4 +1,4 @@
-use Rattle.std.proofs.Common.{◌≡◌, ◌*◌, true, false, ◌⊎◌, subst, ⊎_elim}
+use Rattle.std.proofs.Common.{◌*◌, subst, ⊎_elim}
 use Rattle.std.proofs.lemmas.Bool.{cases_Bool, both_ways}
 use Rattle.validator.specs.Marks.{Forgot}
 use Rattle.validator.proofs.Places.{forgot_shown}

@@ -1,4 +1,4 @@
-use Rattle.std.proofs.Common.{subst, arith}
+use Rattle.std.proofs.Common.{arith}
 use Rattle.chain.proofs.Chains.{chain_length}
 use Rattle.chain.proofs.calls.ChainStoreStore.lawful.Goals as goal
 

@@ -1,8 +1,6 @@
-use Rattle.std.proofs.Common.{◌≡◌, ℕ, ◌<◌, true, false, eqb, length, get_or, None, sym, refl, ap, ◌∙◌, arith}
+use Rattle.std.proofs.Common.{◌≡◌, true, false, eqb, None, sym, refl, ap, ◌∙◌, arith}
 use Rattle.std.proofs.lemmas.Bool.{lt-leb, eqb-false}
-use Rattle.triple.specs.Arcs.{has}
 use Rattle.triple.specs.Stores.{total, put_refusal}
-use Rattle.chain.specs.Links.{arcs_of}
 use Rattle.chain.proofs.Chains.{chain_length}
 use Rattle.chain.proofs.Upkeep.{SizedIn, arcs_in, cell_has, Put, put_done, found, not_found}
 use Rattle.chain.proofs.calls.ChainStoreStore.put.Goals as goal

@@ -1,4 +1,4 @@
-use Rattle.std.proofs.Common.{◌<◌, refl, arith}
+use Rattle.std.proofs.Common.{refl, arith}
 use Rattle.std.proofs.lemmas.Bool.{lt-leb}
 use Rattle.chain.proofs.Upkeep.{SizedIn, Taken, take_done}
 use Rattle.chain.proofs.calls.ChainStoreStore.take.Goals as goal

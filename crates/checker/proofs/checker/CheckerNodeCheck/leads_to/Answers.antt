@@ -1,5 +1,4 @@
-use Rattle.std.proofs.Common.{◌≤◌, true, false, length, Some, sym, refl, ◌∙◌, subst, arith}
-use Rattle.std.specs.List.{slice_get}
+use Rattle.std.proofs.Common.{◌≤◌, length, sym, refl, ◌∙◌, subst, arith}
 use Rattle.std.proofs.lemmas.Bool.{false≢true}
 use Rattle.shapes.specs.Lists.{Member}
 use Rattle.shapes.proofs.Lists.{nth_member}

@@ -1,5 +1,4 @@
 use Rattle.std.proofs.Common.{ap, ◌∙◌, arith}
-use Rattle.triple.specs.Stores.{total}
 use Rattle.rows.specs.Table.{used}
 use Rattle.rows.proofs.Tables.{used_total}
 use Rattle.rows.proofs.calls.RowStoreStore.total.Goals as goal

@@ -1,4 +1,4 @@
-use Rattle.std.proofs.Common.{◌≡◌, ℕ, ◌-◌, min, [], ◌++◌, length, drop, refl, ap, ◌∙◌, arith}
+use Rattle.std.proofs.Common.{◌≡◌, ℕ, ◌-◌, [], ◌++◌, length, drop, refl, ap, ◌∙◌, arith}
 use Rattle.triple.proofs.Changes.{total_none}
 use Rattle.rows.specs.Table.{arcs_of}
 use Rattle.rows.proofs.Tables.{made, length_made, drop_made, arcs_none}

@@ -1,4 +1,4 @@
-use Rattle.std.proofs.Common.{◌≡◌, ℕ, ◌<◌, sym, subst, arith}
+use Rattle.std.proofs.Common.{◌≡◌, ◌<◌, arith}
 use Rattle.upstream.specs.Chains.{OnChainOf}
 use Rattle.upstream.proofs.Chaining.{sound_none, chained_none, node_more, node_all}
 use Rattle.upstream.proofs.backward.Backward.of.Goals as goal

@@ -1,5 +1,4 @@
-use Rattle.std.proofs.Common.{◌≡◌, ◌+◌, ◌*◌, ◌<◌, arith}
-use Rattle.shapes.specs.Bytes.{place}
+use Rattle.std.proofs.Common.{◌+◌, ◌*◌, arith}
 use Rattle.ledger.specs.Steps.{HeldStep}
 use Rattle.schema.specs.Accepted.{meaning}
 use Rattle.validator.specs.Books.{book}

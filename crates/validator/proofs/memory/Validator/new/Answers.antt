@@ -1,9 +1,7 @@
-use Rattle.std.proofs.Common.{◌≡◌, ℕ, ◌<◌, Bool, true, false, ◌&&◌, ◌⊎◌, List, get_or, replicate, sym, refl, ap, ◌∙◌, inl, inr, ⊎_elim, arith}
+use Rattle.std.proofs.Common.{false, refl, ap}
 use mathlib.Core.Path.{fun_ext}
-use Rattle.std.proofs.lemmas.Bool.{cases_Bool, both_ways}
-use Rattle.shapes.specs.Bytes.{place, byte_typing}
+use Rattle.std.proofs.lemmas.Bool.{both_ways}
 use Rattle.schema.specs.Accepted.{meaning}
-use Rattle.validator.specs.Books.{book, opening}
 use Rattle.validator.proofs.Places.{none_shown}
 use Rattle.validator.proofs.memory.Validator.new.Goals as goal
 
