@@ -37,9 +37,9 @@ pub record Sized (heads fans free next properties objects : List ℕ) : Type 0 w
 -- the arc that a cell of a chain holds is one of its arcs
 pub cell_has : (heads fans next properties objects : List ℕ) (s f p o : ℕ) → on_chain heads fans next s f ≡ true → get_or properties f 0 ≡ p → get_or objects f 0 ≡ o
     → has p o (arcs_of heads fans next properties objects s) ≡ true
-cell_has heads fans next properties objects s f p o at-cell property object =
+cell_has heads fans next properties objects s f p o at_cell property object =
     let arcs = arcs_of heads fans next properties objects s in
-    subst (λ x. has x o arcs ≡ true) property (subst (λ x. has (get_or properties f 0) x arcs ≡ true) object (on_has next properties objects (get_or fans s 0) (get_or heads s 0) f at-cell))
+    subst (λ x. has x o arcs ≡ true) property (subst (λ x. has (get_or properties f 0) x arcs ≡ true) object (on_has next properties objects (get_or fans s 0) (get_or heads s 0) f at_cell))
 
 module _ (nodes count : ℕ) (heads fans free next properties objects : List ℕ)
     (sized : Sized heads fans free next properties objects) (sound : Sound nodes count heads fans free next properties objects)
@@ -110,7 +110,7 @@ module _ (nodes count : ℕ) (heads fans free next properties objects : List ℕ
           unlike = λ i j h. sound.unlike i j (omega arith, omega arith, h.2);
         }
 
-  module _ (f : ℕ) (at-cell : placed s f ≡ true) (property : get_or properties f 0 ≡ p) (object : get_or objects f 0 ≡ o) where
+  module _ (f : ℕ) (at_cell : placed s f ≡ true) (property : get_or properties f 0 ≡ p) (object : get_or objects f 0 ≡ o) where
     abbrev head : ℕ
     head = get_or heads s 0
 
@@ -121,25 +121,25 @@ module _ (nodes count : ℕ) (heads fans free next properties objects : List ℕ
     taken = on_chain (set heads s (get_or next head 0)) (set fans s (get_or fans s 0 - 1)) next
 
     some : 0 < get_or fans s 0
-    some = longer (get_or fans s 0) at-cell
+    some = longer (get_or fans s 0) at_cell
       where
         longer : (k : ℕ) → on next k head f ≡ true → 0 < k
         longer zero e = clash (sym e)
         longer (suc k) e = omega arith
 
     in_cells : f < 512
-    in_cells = sound.cells s f at-cell
+    in_cells = sound.cells s f at_cell
 
     present : has p o (arcs s) ≡ true
-    present = cell_has heads fans next properties objects s f p o at-cell property object
+    present = cell_has heads fans next properties objects s f p o at_cell property object
 
     take_list : take_arcs s ≡ without p o (arcs s)
     take_list =
-        take_here heads fans next properties objects s f in_heads in_fans some (sound.apart s) (omega (arith, in_cells, sized.cells.2)) (omega (arith, in_cells, sized.cells.3)) at-cell
+        take_here heads fans next properties objects s f in_heads in_fans some (sound.apart s) (omega (arith, in_cells, sized.cells.2)) (omega (arith, in_cells, sized.cells.3)) at_cell
         ∙ ap (λ x. without x (get_or objects f 0) (arcs s)) property ∙ ap (λ x. without p x (arcs s)) object
 
     take_lists : (n : ℕ) → (n ≡ s → ⊥) → take_arcs n ≡ arcs n
-    take_lists n d = take_others heads fans next properties objects s f in_heads in_fans some n d (off_others n d f at-cell)
+    take_lists n d = take_others heads fans next properties objects s f in_heads in_fans some n d (off_others n d f at_cell)
 
     take_cells : Gains taken s head placed
     take_cells = take_gains heads fans next properties objects s f in_heads in_fans some
@@ -165,8 +165,8 @@ module _ (nodes count : ℕ) (heads fans free next properties objects : List ℕ
 
     take_sound : Sound nodes (count - 1) (set heads s (get_or next head 0)) (set fans s (get_or fans s 0 - 1)) (set free (512 - count) head) next (set properties f (get_or properties head 0)) (set objects f (get_or objects head 0))
     take_sound =
-        let on-head = on_first next (get_or fans s 0) head some in
-        let used : (i : ℕ) → i < 512 - count → get_or free i 0 ≡ head → ⊥ = λ i h e. let z : true ≡ false = sym on-head ∙ subst (λ c. placed s c ≡ false) e (sound.unused i s h) in clash z in
+        let on_head = on_first next (get_or fans s 0) head some in
+        let used : (i : ℕ) → i < 512 - count → get_or free i 0 ≡ head → ⊥ = λ i h e. let z : true ≡ false = sym on_head ∙ subst (λ c. placed s c ≡ false) e (sound.unused i s h) in clash z in
         record {
           small = sound.small;
           room = omega (arith, sound.room);
@@ -177,7 +177,7 @@ module _ (nodes count : ℕ) (heads fans free next properties objects : List ℕ
           within = each_after arcs take_arcs s p o take_lists (inside nodes) (rw take_list (inside_without nodes p o (arcs s) (sound.within s))) sound.within;
           cells = λ n c h. sound.cells n c (kept taken s head placed take_cells n c h);
           own = loses_cut taken s head placed take_cells sound.own;
-          spare = free_more (λ i c. c < 512) (sound.cells s head on-head) sound.spare;
+          spare = free_more (λ i c. c < 512) (sound.cells s head on_head) sound.spare;
           unused = λ i n h. free_more (λ j c. taken n c ≡ false) (freed n) (λ j l. still_off taken s head placed take_cells n (get_or free j 0) (sound.unused j n l)) i h;
           unlike = λ i j h. free_more (λ i c. (j : ℕ) → j < 512 - (count - 1) → c ≡ get_or (set free (512 - count) head) j 0 → i ≡ j)
               (free_more (λ j d. head ≡ d → 512 - count ≡ j) (λ e. refl) (λ j l e. absurd (used j l (sym e))))
@@ -217,13 +217,13 @@ pub record Taken (m : ChainStore) (s p o f : ℕ) : Type 0 where
   pub after : Sound m.nodes (m.count - 1) (set m.heads s (get_or m.next (get_or m.heads s 0) 0)) (set m.fans s (get_or m.fans s 0 - 1)) (set m.free (512 - m.count) (get_or m.heads s 0)) m.next (set m.properties f (get_or m.properties (get_or m.heads s 0) 0)) (set m.objects f (get_or m.objects (get_or m.heads s 0) 0))
 
 pub take_done : (m : ChainStore) → SizedIn m → (s p o f : ℕ) → s < m.nodes → on_chain m.heads m.fans m.next s f ≡ true → get_or m.properties f 0 ≡ p → get_or m.objects f 0 ≡ o → Taken m s p o f
-take_done m sized s p o f subject at-cell property object =
+take_done m sized s p o f subject at_cell property object =
     record {
-      present = cell_has m.heads m.fans m.next m.properties m.objects s f p o at-cell property object;
-      head = head_below m.nodes m.count m.heads m.fans m.free m.next m.properties m.objects sized (sound_of m) s p o subject f at-cell property object;
-      counted = omega (arith, one_less m.nodes m.count m.heads m.fans m.free m.next m.properties m.objects sized (sound_of m) s p o subject f at-cell property object);
-      change = take_removed m.nodes m.count m.heads m.fans m.free m.next m.properties m.objects sized (sound_of m) s p o subject f at-cell property object;
-      after = take_sound m.nodes m.count m.heads m.fans m.free m.next m.properties m.objects sized (sound_of m) s p o subject f at-cell property object;
+      present = cell_has m.heads m.fans m.next m.properties m.objects s f p o at_cell property object;
+      head = head_below m.nodes m.count m.heads m.fans m.free m.next m.properties m.objects sized (sound_of m) s p o subject f at_cell property object;
+      counted = omega (arith, one_less m.nodes m.count m.heads m.fans m.free m.next m.properties m.objects sized (sound_of m) s p o subject f at_cell property object);
+      change = take_removed m.nodes m.count m.heads m.fans m.free m.next m.properties m.objects sized (sound_of m) s p o subject f at_cell property object;
+      after = take_sound m.nodes m.count m.heads m.fans m.free m.next m.properties m.objects sized (sound_of m) s p o subject f at_cell property object;
     }
 
 -- what `find` answers

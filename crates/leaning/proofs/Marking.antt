@@ -1,4 +1,4 @@
--- Marking pairs, one after another, until no-properties waits. Assumes nothing.
+-- Marking pairs, one after another, until none waits. Assumes nothing.
 use Rattle.std.proofs.Common.{◌≡◌, ℕ, ◌+◌, ◌*◌, ◌<◌, ◌≤◌, true, not, eqb, ltb, ◌⊎◌, List, [], ◌∷◌, ◌++◌, length, get_or, take, set, sym, refl, ap, ◌∙◌, subst, inl, inr, ⊎_elim, arith, get_or-set_other, get_or-set_same}
 use Rattle.std.proofs.lemmas.List.{length_push, length-take-le, drop-set-lt}
 use Rattle.std.proofs.lemmas.List.Sums.{count_by-le-length}
@@ -92,7 +92,7 @@ module _ (N L : ℕ) (held : List ℕ) where
       let z = r.marks_long in
       record { few_nodes = r.few_nodes; few_labels = r.few_labels; held_long = r.held_long; marks_long = omega arith; room = omega arith }
 
-  -- no-properties waits yet
+  -- none waits yet
   pub ready_first : (ms : List ℕ) (slots : List Goal) (len : ℕ) → N ≤ 256 → L ≤ 32 → N * L ≤ length held → N * L ≤ length ms → N * L ≤ length slots → len ≡ 0
       → Ready N L held ms slots len
   ready_first ms slots len a b h m s z =
@@ -145,7 +145,7 @@ module _ (N L : ℕ) (held : List ℕ) where
               (λ w. inl w.2) (g.more x m);
         }
 
-  -- where no-properties waits, everything that is reached is held or marked
+  -- where none waits, everything that is reached is held or marked
   pub searched : (S : Schema) (G : Graph) (n l : ℕ) (marks : Typing) → Searching S G n l (byte_typing N L held) marks [] → Closed S G (In (byte_typing N L held))
       → (o k : ℕ) → Reached S G n l o k → In marks o k ⊎ In (byte_typing N L held) o k
   searched S G n l marks p closed o k r =

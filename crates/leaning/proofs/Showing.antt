@@ -1,4 +1,4 @@
--- The bytes of pairs: what is byte-typing when one is written. Assumes nothing.
+-- The bytes of pairs: what is shown when one is written. Assumes nothing.
 use Rattle.std.proofs.Common.{◌≡◌, ℕ, zero, suc, ◌+◌, ◌*◌, ◌/◌, ◌%◌, ◌<◌, ◌≤◌, true, false, cond, not, ◌&&◌, eqb, ltb, ◌⊎◌, List, [], ◌∷◌, length, get_or, take, set, count_by, sym, refl, ap, ◌∙◌, ap₂, inl, inr, ⊎_elim, arith, get_or-set_other, get_or-set_same}
 use Rattle.std.proofs.lemmas.Nat.{mul-add-lt, div-mul-add, mod-mul-add}
 use Rattle.std.proofs.lemmas.List.{length-take-le, get_or-take}
@@ -29,7 +29,7 @@ module _ (nodes labels : ℕ) (bytes : List ℕ) where
   pub shown_from : (n l : ℕ) → n < nodes → l < labels → get_or bytes (n * labels + l) 0 ≡ 1 → byte_typing nodes labels bytes n l ≡ true
   shown_from n l h k e = and_from _ _ (and_from _ _ (lt-ltb n nodes h) (lt-ltb l labels k)) (eq-eqb _ 1 e)
 
-  -- no-properties is byte-typing where the bytes are 0
+  -- none is shown where the bytes are 0
   pub shown_none : ((i : ℕ) → i < nodes * labels → get_or bytes i 0 ≡ 0) → (n l : ℕ) → byte_typing nodes labels bytes n l ≡ true → ⊥
   shown_none z n l h =
       let w = shown_within n l h in

@@ -2,7 +2,7 @@
 --     member s k          the label k is in the set s: bit k is 1
 --     none                the set that holds no label
 --     in_row sets r k     the label k is in the set of row r
---     takes_by, admits-by what a row admits, by the sets of the rows that it names
+--     takes_by, admits_by what a row admits, by the sets of the rows that it names
 use Rattle.std.specs.Prelude.{ℕ, ◌/◌, ◌%◌, ◌^◌, Bool, false, ◌&&◌, ◌||◌, List, ◌==◌, slice_index_or}
 use Rattle.shapes.specs.Expr.{Schema}
 use Rattle.draft.specs.Tables.{schema_of}

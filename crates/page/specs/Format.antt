@@ -4,7 +4,7 @@
 --     triples_of n arcs         the triples of the nodes below n, by subject
 --     page_of n arcs            the bytes of the page of a store with n nodes and these lists
 --     over buffer bytes         the buffer once the bytes are written at its start; later bytes stay
---     save_answer, save-after   the answer of a save and the buffer after it; a buffer that is too short stays as it is
+--     save_answer, save_after   the answer of a save and the buffer after it; a buffer that is too short stays as it is
 use Rattle.std.specs.Prelude.{ℕ, zero, suc, ◌/◌, ◌%◌, cond, List, [], ◌∷◌, ◌++◌, map, length, drop, Ok, Err, Result, nat_lt}
 use Rattle.refusal.specs.declared.Layer.TheVariants.{Page}
 use Rattle.triple.specs.Arcs.{Arc}

@@ -1,7 +1,7 @@
 -- Which labels stand in an expression, as tests, and what sets of labels say of it row by row. Assumes nothing.
 --     has_arc e k, mentions e k     an ARC with the label k stands in e
 --     negates e k                   such an ARC stands below at least one NOT
---     .. -by                        the same of a row, by the sets of the rows that it names
+--     .. _by                        the same of a row, by the sets of the rows that it names
 use Rattle.std.specs.Prelude.{ℕ, Bool, false, ◌||◌, List, ◌==◌, slice_index_or}
 use Rattle.shapes.specs.Expr.{Triple, empty, arc, each, some, times, Shape, value, hood, and, or, not}
 use Rattle.draft.specs.declared.rows.ShapeRow.{ShapeRow}

@@ -28,7 +28,7 @@ module _ (N L : ℕ) where
   decides_shown x n l =
       Decides-and (ltb n N && ltb l L) (eqb (get_or x (place L n l) 0) 1) (Decides-and (ltb n N) (ltb l L) (Decides-ltb n N) (Decides-ltb l L)) (Decides-eqb (get_or x (place L n l) 0) 1)
 
-  -- a pair whose byte is the same is byte-typing by both
+  -- a pair whose byte is the same is shown by both
   pub shown_same : (x y : List ℕ) (n l : ℕ) → get_or y (place L n l) 0 ≡ get_or x (place L n l) 0 → In (byte_typing N L x) n l → In (byte_typing N L y) n l
   shown_same x y n l e h = ap (λ b. (ltb n N && ltb l L) && eqb b 1) e ∙ h
 

@@ -59,7 +59,7 @@ module _ (S : Schema) (σ : ℕ → ℕ) where
 
 -- the call at i, whose part of the tables goes from at to end
 module _ (calls : List Call) (answers : List Answer) (tables part' : List ℕ) (i at end k : ℕ) (x : Call) (a : Answer)
-    (in-calls : i < length calls) (in-answers : i < length answers) (in_tables : end ≤ length tables) (ends : end ≡ at + k)
+    (in_calls : i < length calls) (in_answers : i < length answers) (in_tables : end ≤ length tables) (ends : end ≡ at + k)
     (room : k ≡ lent (get_or calls i x)) (kept : length part' ≡ length (take k (drop at tables))) where
   enough : k ≤ length (drop at tables)
   enough = omega (arith, length-drop at tables, ends)
@@ -76,8 +76,8 @@ module _ (calls : List Call) (answers : List Answer) (tables part' : List ℕ) (
       let late = subst (λ ts. Runs S σ m' (drop (i + 1) calls) os ts after b') drop_part run in
       let whole : take k (drop at tables) ++ drop end tables ≡ drop at tables = ap (λ n. take k (drop at tables) ++ drop n tables) ends ∙ ap (λ ts. take k (drop at tables) ++ ts) (sym (drop-drop k at tables)) ∙ take-append-drop k (drop at tables) in
       let one = then (length-take-le k (drop at tables) enough ∙ room) step late in
-      let here = subst (λ cs. Runs S σ m cs (a ∷ os) (drop at tables) (part' ++ after) b') (sym (drop_more calls i x in-calls)) (subst (λ ts. Runs S σ m (get_or calls i x ∷ drop (i + 1) calls) (a ∷ os) ts (part' ++ after) b') whole one) in
-      let answers_same : take i answers ++ (a ∷ os) ≡ take (i + 1) (set answers i a) ++ os = sym (ap (λ z. z ++ os) (take_more_set answers i a in-answers) ∙ append_assoc (take i answers) (a ∷ []) os) in
+      let here = subst (λ cs. Runs S σ m cs (a ∷ os) (drop at tables) (part' ++ after) b') (sym (drop_more calls i x in_calls)) (subst (λ ts. Runs S σ m (get_or calls i x ∷ drop (i + 1) calls) (a ∷ os) ts (part' ++ after) b') whole one) in
+      let answers_same : take i answers ++ (a ∷ os) ≡ take (i + 1) (set answers i a) ++ os = sym (ap (λ z. z ++ os) (take_more_set answers i a in_answers) ∙ append_assoc (take i answers) (a ∷ []) os) in
       let tables_same : take at tables ++ (part' ++ after) ≡ take end (put_mid at k tables part') ++ after = sym (ap (λ z. z ++ after) (take-put_mid at k tables part' end (omega (arith, long, ends)) (omega (arith, ends))) ∙ append_assoc (take at tables) part' after) in
       subst (λ z. Runs S σ b calls z before (take end (put_mid at k tables part') ++ after) b') answers_same
       (subst (λ z. Runs S σ b calls (take i answers ++ (a ∷ os)) before z b') tables_same (on (a ∷ os) (part' ++ after) b' here))

@@ -1,6 +1,6 @@
 -- What a list of calls does to the ledger, and what it answers. Assumes nothing.
 --     proposed w         the strata that a sweep proposes
---     lent c             how many bytes of table a call is lent; all-lent, those of a list of calls together
+--     lent c             how many bytes of table a call is lent; all_lent, those of a list of calls together
 --     reply f r          the answer r of the ledger as a value: f of what it gives, or the layer and the number of its refusal
 --     Step S σ b c a part part' b'
 --                        the call c takes the ledger b to b', is answered by a, and makes part' of the bytes that it is lent

@@ -91,11 +91,11 @@ module _ (rows : List Row) (i s p o : ℕ) (d : Row) (l : i < length (take 1024 
 
 -- how many rows are in use
 
-used-first : (row : Row) (rows : List Row) → row.used ≡ true → used (row ∷ rows) ≡ 1 + used rows
-used-first row rows e = rw e refl
+used_first : (row : Row) (rows : List Row) → row.used ≡ true → used (row ∷ rows) ≡ 1 + used rows
+used_first row rows e = rw e refl
 
-used-skip : (row : Row) (rows : List Row) → row.used ≡ false → used (row ∷ rows) ≡ 0 + used rows
-used-skip row rows e = rw e refl
+used_skip : (row : Row) (rows : List Row) → row.used ≡ false → used (row ∷ rows) ≡ 0 + used rows
+used_skip row rows e = rw e refl
 
 -- each row in use has a subject below the node count, so the rows in use are the arcs of the nodes
 pub used_total : (nodes : ℕ) (rows : List Row) → ((n : ℕ) → nodes ≤ n → length (arcs_in n rows) ≡ 0) → used rows ≡ total nodes (λ n. arcs_in n rows)
@@ -109,10 +109,10 @@ used_total nodes (row ∷ rows) past =
     let longer = ap length (arcs_first s row rows mine) in
     let below : s < nodes = ⊎_elim (λ (h : s < nodes). h) (λ (h : nodes ≤ s). let none = past s h in absurd (omega arith)) (cases_lt s nodes) in
     let more = total_more (λ n. arcs_in n rows) (λ n. arcs_in n (row ∷ rows)) s nodes below longer (λ n d. arcs_skip n row rows (and_right _ _ (ne_eqb s n (λ q. d (sym q))))) in
-    omega (arith, used-first row rows e, more, rest))
+    omega (arith, used_first row rows e, more, rest))
     (λ (e : row.used ≡ false).
     let same_total = total_same (λ n. arcs_in n rows) (λ n. arcs_in n (row ∷ rows)) nodes (λ n h. arcs_skip n row rows (and_left _ _ e)) in
-    omega (arith, used-skip row rows e, same_total, rest))
+    omega (arith, used_skip row rows e, same_total, rest))
     (cases_Bool row.used)
   where
     rest_none : (n : ℕ) → length (arcs_in n (row ∷ rows)) ≡ 0 → length (arcs_in n rows) ≡ 0
@@ -122,18 +122,18 @@ used_total nodes (row ∷ rows) past =
         (λ (e : of n row ≡ false). ap length (sym (arcs_skip n row rows e)) ∙ h)
         (cases_Bool (of n row))
 
-used-most : (rows : List Row) → used rows ≤ length rows
-used-most [] = omega arith
-used-most (row ∷ rows) =
-    let rest = used-most rows in
-    ⊎_elim (λ (e : row.used ≡ true). omega (arith, used-first row rows e)) (λ (e : row.used ≡ false). omega (arith, used-skip row rows e)) (cases_Bool row.used)
+used_most : (rows : List Row) → used rows ≤ length rows
+used_most [] = omega arith
+used_most (row ∷ rows) =
+    let rest = used_most rows in
+    ⊎_elim (λ (e : row.used ≡ true). omega (arith, used_first row rows e)) (λ (e : row.used ≡ false). omega (arith, used_skip row rows e)) (cases_Bool row.used)
 
 pub used_below : (rows : List Row) (i : ℕ) (d : Row) → i < length rows → (get_or rows i d).used ≡ false → used rows < length rows
 used_below [] i d l e = absurd (omega arith)
-used_below (row ∷ rows) zero d l e = omega (arith, used-skip row rows e, used-most rows)
+used_below (row ∷ rows) zero d l e = omega (arith, used_skip row rows e, used_most rows)
 used_below (row ∷ rows) (suc i) d l e =
     let rest = used_below rows i d (omega arith) e in
-    ⊎_elim (λ (f : row.used ≡ true). omega (arith, used-first row rows f)) (λ (f : row.used ≡ false). omega (arith, used-skip row rows f)) (cases_Bool row.used)
+    ⊎_elim (λ (f : row.used ≡ true). omega (arith, used_first row rows f)) (λ (f : row.used ≡ false). omega (arith, used_skip row rows f)) (cases_Bool row.used)
 
 -- free rows
 

@@ -1,7 +1,7 @@
 // A validator from its making on, over a whole list of calls.
 #![tactic(auto)]
 
-ghost use Rattle.std.specs.Prelude.{true, false, ◌&&◌, ◌≡◌, ℕ, leb, length, take, drop};
+ghost use Rattle.std.specs.Prelude.{true, false, ◌&&◌, ◌≡◌, ℕ, nat_le, length, take, drop};
 ghost use Rattle.shapes.specs.References.{Stratification};
 ghost use Rattle.ledger.specs.Sound.{Sound};
 ghost use Rattle.schema.specs.Accepted.{meaning};
@@ -26,7 +26,7 @@ pub fn run<S: Store + Drop, V: ValueTest + Drop>(
     answers: &mut [Answer],
     tables: &mut [u8],
 ) -> (Validator<S, V>, bool)
-    ensures answer { result.1 ≡ (leb (length calls.now) (length answers.old) && leb (all_lent calls.now) (length tables.old)) }
+    ensures answer { result.1 ≡ (nat_le (length calls.now) (length answers.old) && nat_le (all_lent calls.now) (length tables.old)) }
     ensures refused { result.1 ≡ false → (book (S.Store.nodes result.0.store) (S.Store.capacity result.0.store) (S.Store.arcs result.0.store) (V.ValueTest.literals result.0.values) (V.ValueTest.passes result.0.values) (meaning result.0.schema).labels result.0.held ≡ opening (S.Store.nodes store) (S.Store.capacity store) (S.Store.arcs store) (V.ValueTest.literals values) (V.ValueTest.passes values)) × (answers.new ≡ answers.old) × (tables.new ≡ tables.old) }
     ensures kept { result.1 ≡ true → Kept (meaning schema) (opening (S.Store.nodes store) (S.Store.capacity store) (S.Store.arcs store) (V.ValueTest.literals values) (V.ValueTest.passes values)) calls.now (take (length calls.now) answers.new) tables.old tables.new (book (S.Store.nodes result.0.store) (S.Store.capacity result.0.store) (S.Store.arcs result.0.store) (V.ValueTest.literals result.0.values) (V.ValueTest.passes result.0.values) (meaning result.0.schema).labels result.0.held) result.0.verdicts }
     ensures sound { (σ : ℕ → ℕ) → Stratification (meaning schema) σ → Sound (meaning schema) σ (book (S.Store.nodes result.0.store) (S.Store.capacity result.0.store) (S.Store.arcs result.0.store) (V.ValueTest.literals result.0.values) (V.ValueTest.passes result.0.values) (meaning result.0.schema).labels result.0.held) result.0.verdicts }

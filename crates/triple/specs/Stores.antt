@@ -3,7 +3,7 @@
 --     present arcs s p o     the triple (s, p, o) is in the store
 --     total n arcs           how many arcs the nodes below n have in all
 --     Lawful                 what holds of every store
---     put_refusal            how a put refuses, if it does; take-refusal, how a take does
+--     put_refusal            how a put refuses, if it does; take_refusal, how a take does
 --     Added, Removed         the triples after an accepted put, and after an accepted take
 use Rattle.std.specs.Prelude.{◌≡◌, ℕ, zero, suc, ◌+◌, ◌≤◌, Bool, true, not, ◌&&◌, ◌||◌, List, [], ◌∷◌, length, Option, ◌==◌, nat_le}
 use Rattle.refusal.specs.declared.Layer.TheVariants.{Store}

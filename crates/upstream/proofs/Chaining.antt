@@ -115,23 +115,23 @@ module _ (arcs : ℕ → List (ℕ × ℕ)) (n : ℕ) where
     λ h. (h.0, h.1, omega arith, h.3),
   )
 
-getD_zeros : (n o : ℕ) → get_or {A = ℕ} (replicate n 0) o 0 ≡ 0
-getD_zeros zero o = refl
-getD_zeros (suc n) zero = refl
-getD_zeros (suc n) (suc o) = getD_zeros n o
+get_or_zeros : (n o : ℕ) → get_or {A = ℕ} (replicate n 0) o 0 ≡ 0
+get_or_zeros zero o = refl
+get_or_zeros (suc n) zero = refl
+get_or_zeros (suc n) (suc o) = get_or_zeros n o
 
 -- no cell is in use
 pub sound_none : (a b c : ℕ) → Sound (replicate a 0) (replicate b 0) (replicate c 0) 0
 sound_none a b c =
     record {
       few = omega arith;
-      begun = λ o. omega (arith, getD_zeros a o);
-      ordered = λ k. omega (arith, getD_zeros b k);
-      nodes = λ k. omega (arith, getD_zeros c k);
+      begun = λ o. omega (arith, get_or_zeros a o);
+      ordered = λ k. omega (arith, get_or_zeros b k);
+      nodes = λ k. omega (arith, get_or_zeros c k);
     }
 
 pub chained_none : (a : ℕ) (next source : List ℕ) (o n : ℕ) → OnChainOf (replicate a 0) next source o n → ⊥
-chained_none a next source o n h = on_none next source n (subst (λ y. On next source y n) (getD_zeros a o) h)
+chained_none a next source o n h = on_none next source n (subst (λ y. On next source y n) (get_or_zeros a o) h)
 
 -- an arc more of the node is chained, or there was none at that place
 module _ (arcs : ℕ → List (ℕ × ℕ)) (node i : ℕ) (old now new : ℕ → ℕ → Type 0)

@@ -17,10 +17,10 @@ module _ (N C L : ℕ) (A : Lists) (literals : ℕ → Bool) (passes : ℕ → �
   pub edited : (N' ≡ N) × (C' ≡ C) → ((n : ℕ) → distinct (A n) ≡ true) → ((n : ℕ) → distinct (A' n) ≡ true) → Elsewhere A s A'
       → (labels : ℕ) → labels ≡ L → ((n l : ℕ) → In (byte_typing N' labels held') n l ↔ (In (byte_typing N' labels held) n l × ¬ Reaches (graph_of N' A' passes) s n))
       → Edited (book N C A literals passes L held) s (book N' C' A' literals passes L held')
-  edited (same_nodes, same-capacity) apart apart' elsewhere labels count dropped =
+  edited (same_nodes, same_capacity) apart apart' elsewhere labels count dropped =
       let forgot = subst (λ m. (n l : ℕ) → In (byte_typing N' m held') n l ↔ (In (byte_typing N' m held) n l × ¬ Reaches (graph_of N' A' passes) s n)) count dropped in
       record {
-        fixed = record { nodes = same_nodes; capacity = same-capacity; literals = refl; passes = refl };
+        fixed = record { nodes = same_nodes; capacity = same_capacity; literals = refl; passes = refl };
         apart = apart';
         dropped = λ n l.
             let same = reaches_agree (graph_of N A passes) (graph_of N' A' passes) s (agree_elsewhere (graph_of N A passes) (graph_of N' A' passes) s refl apart apart' elsewhere) n in (

@@ -12,12 +12,12 @@ loop-j-preserved c =
     let arc = get_or c.args.arcs.now.arcs c.loop-j.j (0, 0) in
     let has = typed (length c.definitions-labels.result.now) c.args.typing.now arc.1 c.args.label in
     let properties : PropertySet = get_or c.sets.result.now c.from.result (record { words = [] }) in
-    let in-it = in_set properties arc.0 in
-    let here : c.if-contains.admitted ≡ (in-it && has) =
+    let in_it = in_set properties arc.0 in
+    let here : c.if-contains.admitted ≡ (in_it && has) =
     elim c.if-contains.branch [
-      | then-contains w ↦ (let e : in-it ≡ true = sym c.contains.ensures ∙ w.if-contains.true in
+      | then-contains w ↦ (let e : in_it ≡ true = sym c.contains.ensures ∙ w.if-contains.true in
           w.admitted-is ∙ w.has_label.ensures ∙ sym (ap (λ b. b && has) e))
-      | else-contains w ↦ (let e : in-it ≡ false = sym c.contains.ensures ∙ w.if-contains.false in
+      | else-contains w ↦ (let e : in_it ≡ false = sym c.contains.ensures ∙ w.if-contains.false in
           w.admitted-is ∙ w.if-contains.false ∙ sym (ap (λ b. b && has) e))
     ] in
     below_more _ _

@@ -7,8 +7,8 @@ use Rattle.masks.proofs.parts.count_parts.Goals as goal
 use Rattle.masks.proofs.parts.count_parts.Goals.{then-part-top, else-part-top, then-a-part, else-a-part, Joined-part-top}
 
 -- the top place of the part, after the test
-top-after : (c : Joined-part-top) → ((i : ℕ) × (c.if-part-top.top ≡ 2 ^ i)) × (c.if-part-top.top ≤ c.loop-part.part) × (c.loop-part.part < 2 * c.if-part-top.top)
-top-after c =
+top_after : (c : Joined-part-top) → ((i : ℕ) × (c.if-part-top.top ≡ 2 ^ i)) × (c.if-part-top.top ≤ c.loop-part.part) × (c.loop-part.part < 2 * c.if-part-top.top)
+top_after c =
     let old = c.loop-part.invariant in
     elim c.if-part-top.branch [
       | then-part-top w ↦ (
@@ -37,7 +37,7 @@ loop-part-init c = (
 
 pub add_part-requires : goal.add_part-requires
 add_part-requires c =
-    let t = top-after (goal.at.add_part-requires c).Joined-part-top in
+    let t = top_after (goal.at.add_part-requires c).Joined-part-top in
     let n = c.args.fan.value in
     let h : 2 ^ t.0.0 < 2 ^ n = omega (arith, t.0.1, t.1) in
     let r = half t.0.0 n h in
@@ -45,7 +45,7 @@ add_part-requires c =
 
 pub loop-part-preserved : goal.loop-part-preserved
 loop-part-preserved c =
-    let t = top-after (goal.at.loop-part-preserved c).Joined-part-top in
+    let t = top_after (goal.at.loop-part-preserved c).Joined-part-top in
     let top = c.if-part-top.top in
     let p = c.loop-part.part in
     let i = t.0.0 in

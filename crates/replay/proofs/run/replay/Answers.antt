@@ -34,9 +34,9 @@ loop-i-preserved g c =
     let inv = c.loop-i.invariant in
     let calls = c.args.calls.now in
     let fits = both_fit c.args.calls.now (length c.args.answers.now) (length c.args.tables.now) c.if-not-fits.ensures in
-    let in-calls : c.loop-i.i < length calls = omega arith in
-    let in-answers : c.loop-i.i < length c.loop-i.answers = omega (arith, fits.0) in
-    let more = lent_more calls c.loop-i.i c.room_of.result _ in-calls c.room_of.ensures in
+    let in_calls : c.loop-i.i < length calls = omega arith in
+    let in_answers : c.loop-i.i < length c.loop-i.answers = omega (arith, fits.0) in
+    let more = lent_more calls c.loop-i.i c.room_of.result _ in_calls c.room_of.ensures in
     let end : ℕ = c.loop-i.at + c.room_of.result in
     let in_tables : end ≤ length c.loop-i.tables = omega (arith, more, inv.0, fits.1) in
     let ends : end ≡ c.loop-i.at + (end - c.loop-i.at) = omega arith in
@@ -44,9 +44,9 @@ loop-i-preserved g c =
       omega (arith, more, inv.0),
       c.perform.ensures.kept ∙ inv.1,
       drop-set-lt (c.loop-i.i + 1) c.loop-i.answers c.loop-i.i c.perform.result (omega arith) ∙ drop_later c.loop-i.answers c.args.answers.now c.loop-i.i (c.loop-i.i + 1) (omega arith) inv.2,
-      drop_part calls c.loop-i.answers c.loop-i.tables c.perform.new.table c.loop-i.i c.loop-i.at end (end - c.loop-i.at) _ c.perform.result in-calls in-answers in_tables ends (room ∙ c.room_of.ensures) c.perform.auto.table
+      drop_part calls c.loop-i.answers c.loop-i.tables c.perform.new.table c.loop-i.i c.loop-i.at end (end - c.loop-i.at) _ c.perform.result in_calls in_answers in_tables ends (room ∙ c.room_of.ensures) c.perform.auto.table
           ∙ drop_later c.loop-i.tables c.args.tables.now c.loop-i.at end (omega arith) inv.3,
-      turn calls c.loop-i.answers c.loop-i.tables c.perform.new.table c.loop-i.i c.loop-i.at end (end - c.loop-i.at) _ c.perform.result in-calls in-answers in_tables ends (room ∙ c.room_of.ensures) c.perform.auto.table
+      turn calls c.loop-i.answers c.loop-i.tables c.perform.new.table c.loop-i.i c.loop-i.at end (end - c.loop-i.at) _ c.perform.result in_calls in_answers in_tables ends (room ∙ c.room_of.ensures) c.perform.auto.table
           (g.A.Validate.schema c.args.validator.now) (g.A.Validate.schema c.loop-i.validator) inv.1
           (g.A.Validate.ledger c.args.validator.now) (g.A.Validate.ledger c.loop-i.validator) (g.A.Validate.ledger c.perform.new.validator)
           (g.A.Validate.verdicts c.args.validator.now) (g.A.Validate.verdicts c.loop-i.validator) (g.A.Validate.verdicts c.perform.new.validator)

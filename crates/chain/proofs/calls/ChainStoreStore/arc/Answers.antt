@@ -31,8 +31,8 @@ loop-i-preserved c =
     let later : 0 < c.args.place - c.loop-i._i = omega arith in
     let kept : (f : ℕ) → on m.next (k - 1) (get_or m.next c.loop-i.cell 0) f ≡ true → on_chain m.heads m.fans m.next n f ≡ true =
     λ f h. c.loop-i.invariant.3 f (on_rest m.next k c.loop-i.cell f some h) in
-    let on-nth = nth_rest m.next m.properties m.objects k c.loop-i.cell (c.args.place - c.loop-i._i) some later in
-    (m.cells n _ (kept _ (on_first m.next (k - 1) (get_or m.next c.loop-i.cell 0) more)), c.loop-i.invariant.1, c.loop-i.invariant.2, simp sub_more kept, simp sub_more (on-nth ∙ c.loop-i.invariant.4))
+    let on_nth = nth_rest m.next m.properties m.objects k c.loop-i.cell (c.args.place - c.loop-i._i) some later in
+    (m.cells n _ (kept _ (on_first m.next (k - 1) (get_or m.next c.loop-i.cell 0) more)), c.loop-i.invariant.1, c.loop-i.invariant.2, simp sub_more kept, simp sub_more (on_nth ∙ c.loop-i.invariant.4))
 
 pub returns : goal.returns
 returns c =

@@ -18,8 +18,8 @@ returns-in_default c =
     let m = c.args.self.now in
     let absent = sym c.inspect-found.ensures.present ∙ c.if-found.false in
     let unfilled = ne_eqb _ 12 (λ e. c.if-found-from.false (c.inspect-found.ensures.fan ∙ e ∙ sym c.from.ensures)) in
-    let full-store = eq-eqb _ _ (sym (used_total m.nodes _ m.past) ∙ MatchOption-at_none _ _ c.in_default.is c.inspect-found.ensures.vacant ∙ length_front m.rows.now) in
-    record { answer = simp (lt-leb _ _ c.if-triple-self.false, lt-leb _ _ c.if-triple-self-2.false, absent, unfilled, full-store) refl; change = refl; kept = (refl, refl); held = refl; same = refl }
+    let full_store = eq-eqb _ _ (sym (used_total m.nodes _ m.past) ∙ MatchOption-at_none _ _ c.in_default.is c.inspect-found.ensures.vacant ∙ length_front m.rows.now) in
+    record { answer = simp (lt-leb _ _ c.if-triple-self.false, lt-leb _ _ c.if-triple-self-2.false, absent, unfilled, full_store) refl; change = refl; kept = (refl, refl); held = refl; same = refl }
 
 -- what holds once a free row is found
 
