@@ -1,12 +1,12 @@
 // The row store as a triple store.
-ghost use Rattle.std.specs.Prelude.{◌≡◌, ℕ, ◌<◌, min, true, false, [], ◌++◌, length, get_or, take, drop, replicate, MatchOption, MatchResult, slice_index_or};
+ghost use Rattle.std.specs.Prelude.{◌≡◌, ℕ, ◌<◌, min, true, false, [], ◌++◌, length, get_or, take, drop, replicate, MatchOption, MatchResult, ◌==◌, slice_index_or};
 ghost use Rattle.triple.specs.Arcs.{has};
 ghost use Rattle.triple.specs.Faults.{refusal};
-ghost use Rattle.triple.specs.Stores.{put_refusal, take_refusal, Added, Removed};
+ghost use Rattle.triple.specs.Stores.{present, put_refusal, take_refusal, Added, Removed};
 ghost use Rattle.rows.specs.Table.{free, holds, used, arcs_of};
 
 use crate::row::Row;
-use crate::scans::{Survey, arc_in, fan_in, find_in, free_all, front, survey_of, used_in};
+use crate::scans::{arc_in, fan_in, find_free_in, find_in, free_all, front, used_in};
 use crate::store::{MAX_ROWS, RowStore};
 use triple::{MAX_FAN, MAX_NODES, Store, StoreFault, Triple};
 
@@ -35,13 +35,23 @@ impl<'a> RowStore<'a> {
         find_in(front(self.rows), triple)
     }
 
-    // What one scan finds for a put of the triple.
-    fn inspect(&self, triple: Triple) -> Survey
-        ensures present { result.present ≡ has triple.property triple.object (arcs_of self.now.rows.now triple.subject) }
-        ensures fan { result.fan ≡ length (arcs_of self.now.rows.now triple.subject) }
-        ensures vacant { MatchOption result.vacant (used (take 1024 self.now.rows.now) ≡ length (take 1024 self.now.rows.now)) (λ i. (i < length (take 1024 self.now.rows.now)) × ((get_or (take 1024 self.now.rows.now) i free).used ≡ false)) }
+    fn is_present(&self, triple: Triple) -> bool
+        ensures { result ≡ present (arcs_of self.now.rows.now) triple.subject triple.property triple.object }
     {
-        survey_of(front(self.rows), triple)
+        self.find(triple).is_some()
+    }
+
+    // A row that is not in use, if there is one.
+    fn find_free(&self) -> Option<usize>
+        ensures { MatchOption result (used (take 1024 self.now.rows.now) ≡ length (take 1024 self.now.rows.now)) (λ i. (i < length (take 1024 self.now.rows.now)) × ((get_or (take 1024 self.now.rows.now) i free).used ≡ false)) }
+    {
+        find_free_in(front(self.rows))
+    }
+
+    fn is_node_full(&self, node: u16) -> bool
+        ensures { result ≡ (length (arcs_of self.now.rows.now node) == 12) }
+    {
+        self.fan(node) == MAX_FAN
     }
 }
 
@@ -87,14 +97,13 @@ impl<'a> Store for RowStore<'a> {
         if triple.object >= self.nodes {
             return Err(StoreFault::NoObject);
         }
-        let found = self.inspect(triple);
-        if found.present {
+        if self.is_present(triple) {
             return Err(StoreFault::Present);
         }
-        if found.fan == usize::from(MAX_FAN) {
+        if self.is_node_full(triple.subject) {
             return Err(StoreFault::FullNode);
         }
-        let Some(row) = found.vacant else {
+        let Some(row) = self.find_free() else {
             return Err(StoreFault::FullStore);
         };
         self.rows[row] = Row { used: true, triple };

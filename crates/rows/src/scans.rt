@@ -1,5 +1,5 @@
 // Scans of a table of rows.
-ghost use Rattle.std.specs.Prelude.{◌≡◌, ◌+◌, ◌<◌, ◌≤◌, true, false, ◌||◌, length, get_or, take, replicate, if◌then◌else◌, Some, MatchOption, slice_index_or};
+ghost use Rattle.std.specs.Prelude.{◌≡◌, ◌<◌, true, false, length, get_or, take, replicate, MatchOption, slice_index_or};
 ghost use Rattle.std.specs.List.{slice_get};
 ghost use Rattle.triple.specs.Arcs.{has};
 ghost use Rattle.rows.specs.Table.{free, of, holds, used, arcs_in};
@@ -81,46 +81,16 @@ pub(crate) fn find_in(rows: &[Row], triple: Triple) -> Option<usize>
     None
 }
 
-// What one scan finds for a put: whether the triple is there, the fan of its subject, and a row that is not in use.
-#[derive(Clone, Copy)]
-pub(crate) struct Survey {
-    pub(crate) present: bool,
-    pub(crate) fan: usize,
-    pub(crate) vacant: Option<usize>,
-}
-
-// What was found, with one more row, the row `i`.
-fn surveyed(found: Survey, i: usize, row: &Row, triple: Triple) -> Survey
-    requires { (found.fan ≤ i) × (i < 18446744073709551615) }
-    ensures present { result.present ≡ (found.present || holds triple.subject triple.property triple.object row.now) }
-    ensures fan { result.fan ≡ found.fan + (if of triple.subject row.now then 1 else 0) }
-    ensures vacant { result.vacant ≡ (if row.now.used then found.vacant else Some i) }
+// A row that is not in use, if there is one.
+pub(crate) fn find_free_in(rows: &[Row]) -> Option<usize>
+    ensures { MatchOption result (used rows.now ≡ length rows.now) (λ i. (i < length rows.now) × ((get_or rows.now i free).used ≡ false)) }
 {
-    Survey {
-        present: found.present || is_held(row, triple),
-        fan: if is_of(row, triple.subject) {
-            found.fan + 1
-        } else {
-            found.fan
-        },
-        vacant: if row.used { found.vacant } else { Some(i) },
-    }
-}
-
-pub(crate) fn survey_of(rows: &[Row], triple: Triple) -> Survey
-    ensures present { result.present ≡ has triple.property triple.object (arcs_in triple.subject rows.now) }
-    ensures fan { result.fan ≡ length (arcs_in triple.subject rows.now) }
-    ensures vacant { MatchOption result.vacant (used rows.now ≡ length rows.now) (λ i. (i < length rows.now) × ((get_or rows.now i free).used ≡ false)) }
-{
-    let mut found = Survey {
-        present: false,
-        fan: 0,
-        vacant: None,
-    };
     for (i, row) in rows.iter().enumerate() {
-        found = surveyed(found, i, row, triple);
+        if !row.used {
+            return Some(i);
+        }
     }
-    found
+    None
 }
 
 // Frees every row.

@@ -1,7 +1,6 @@
-use Rattle.std.proofs.Common.{◌≡◌, ◌<◌, min, false, length, get_or, take, set, sym, refl, ap, ◌∙◌, arith}
+use Rattle.std.proofs.Common.{◌≡◌, ◌<◌, min, length, take, set, sym, refl, ap, ◌∙◌, arith}
 use Rattle.std.proofs.lemmas.List.{length-set, drop-set-lt}
-use Rattle.std.proofs.lemmas.Option.{MatchOption-at_some, MatchOption-at_none}
-use Rattle.std.proofs.lemmas.Bool.{lt-leb, le-leb, eq-eqb, ne_eqb}
+use Rattle.std.proofs.lemmas.Bool.{lt-leb, le-leb, eq-eqb, ne_eqb, eqb-false}
 use Rattle.triple.specs.Stores.{Lawful, total}
 use Rattle.rows.specs.Table.{full, free, arcs_of}
 use Rattle.rows.proofs.Gains.{Gains, gains_added, lawful_more}
@@ -16,32 +15,29 @@ returns-then-triple-self-2 c =
 pub returns-in_default : goal.returns-in_default
 returns-in_default c =
     let m = c.args.self.now in
-    let absent = sym c.inspect-found.ensures.present ∙ c.if-found.false in
-    let unfilled = ne_eqb _ 12 (λ e. c.if-found-from.false (c.inspect-found.ensures.fan ∙ e ∙ sym c.from.ensures)) in
-    let full_store = eq-eqb _ _ (sym (used_total m.nodes _ m.past) ∙ MatchOption-at_none _ _ c.in_default.is c.inspect-found.ensures.vacant ∙ length_front m.rows.now) in
+    let absent = sym c.is_present.ensures ∙ c.if-is_present.false in
+    let unfilled = sym c.is_node_full.ensures ∙ c.if-is_node_full.false in
+    let full_store = eq-eqb _ _ (sym (used_total m.nodes _ m.past) ∙ c.in_default.ensures ∙ length_front m.rows.now) in
     record { answer = simp (lt-leb _ _ c.if-triple-self.false, lt-leb _ _ c.if-triple-self-2.false, absent, unfilled, full_store) refl; change = refl; kept = (refl, refl); held = refl; same = refl }
 
 -- what holds once a free row is found
 
-found : (c : In-Some) → (c.in-Some.row < length (take 1024 c.args.self.now.rows.now)) × ((get_or (take 1024 c.args.self.now.rows.now) c.in-Some.row free).used ≡ false)
-found c = MatchOption-at_some _ (λ i. (i < length (take 1024 c.args.self.now.rows.now)) × ((get_or (take 1024 c.args.self.now.rows.now) i free).used ≡ false)) c.in-Some.row c.in-Some.is c.inspect-found.ensures.vacant
-
 below : (c : In-Some) → c.in-Some.row < min (length c.args.self.now.rows.now) 1024
-below c = omega (arith, (found c).0, length_front c.args.self.now.rows.now)
+below c = omega (arith, c.in-Some.ensures.0, length_front c.args.self.now.rows.now)
 
 vacant : (c : In-Some) → total c.args.self.now.nodes (arcs_of c.args.self.now.rows.now) ≡ min (length c.args.self.now.rows.now) 1024 → ⊥
 vacant c e =
     let m = c.args.self.now in
-    let fewer = used_below (take 1024 m.rows.now) c.in-Some.row free (found c).0 (found c).1 in
+    let fewer = used_below (take 1024 m.rows.now) c.in-Some.row free c.in-Some.ensures.0 c.in-Some.ensures.1 in
     omega (arith, e, fewer, used_total m.nodes (take 1024 m.rows.now) m.past, length_front m.rows.now)
 
 gains : (c : In-Some) → Gains (arcs_of c.args.self.now.rows.now) (arcs_of (set c.args.self.now.rows.now c.in-Some.row (full c.args.triple.subject c.args.triple.property c.args.triple.object))) c.args.triple.subject c.args.triple.property c.args.triple.object
-gains c = put_gains c.args.self.now.rows.now c.in-Some.row c.args.triple.subject c.args.triple.property c.args.triple.object free (found c).0 (found c).1
+gains c = put_gains c.args.self.now.rows.now c.in-Some.row c.args.triple.subject c.args.triple.property c.args.triple.object free c.in-Some.ensures.0 c.in-Some.ensures.1
 
 after : (c : In-Some) → Lawful c.args.self.now.nodes (min (length c.args.self.now.rows.now) 1024) (arcs_of (set c.args.self.now.rows.now c.in-Some.row (full c.args.triple.subject c.args.triple.property c.args.triple.object)))
 after c =
     lawful_more _ _ c.args.triple.subject c.args.triple.property c.args.triple.object (gains c) _ _ c.if-triple-self.false (lawful_in c.args.self.now)
-    (omega arith) c.if-triple-self-2.false (sym c.inspect-found.ensures.present ∙ c.if-found.false) (λ e. c.if-found-from.false (c.inspect-found.ensures.fan ∙ e ∙ sym c.from.ensures)) (vacant c)
+    (omega arith) c.if-triple-self-2.false (sym c.is_present.ensures ∙ c.if-is_present.false) (eqb-false _ 12 (sym c.is_node_full.ensures ∙ c.if-is_node_full.false)) (vacant c)
 
 pub offset_bounds-self-row : goal.offset_bounds-self-row
 offset_bounds-self-row c = omega (arith, below (goal.at.offset_bounds-self-row c).In-Some)
@@ -60,8 +56,8 @@ returns c =
     let at = (goal.at.returns c).In-Some in
     let rows = c.args.self.now.rows.now in
     let t = c.args.triple in
-    let absent = sym c.inspect-found.ensures.present ∙ c.if-found.false in
-    let unfilled = ne_eqb _ 12 (λ e. c.if-found-from.false (c.inspect-found.ensures.fan ∙ e ∙ sym c.from.ensures)) in
+    let absent = sym c.is_present.ensures ∙ c.if-is_present.false in
+    let unfilled = sym c.is_node_full.ensures ∙ c.if-is_node_full.false in
     record {
       answer = simp (lt-leb _ _ c.if-triple-self.false, lt-leb _ _ c.if-triple-self-2.false, absent, unfilled, ne_eqb _ _ (vacant at)) refl;
       change = gains_added _ _ t.subject t.property t.object (gains at);
