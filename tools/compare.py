@@ -4,7 +4,7 @@
     tools/compare.py PROGRAM                 on the gate's script and on samples/
     tools/compare.py PROGRAM FIRST LAST      on the random scripts of the seeds from FIRST to LAST
 
-PROGRAM is crates/day/out/day once `rt run day` has built it. Each script is run twice, by the program and by the reference,
+PROGRAM is crates/day/out/day once `rt run` in crates/day has built it. Each script is run twice, by the program and by the reference,
 each in a folder of its own; the pages that they save have to hold the same triples.
 """
 import os
