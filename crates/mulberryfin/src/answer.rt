@@ -1,5 +1,6 @@
 // What a command answers, and how it is printed.
 use draft::SchemaFault;
+use refusal::Fault;
 use std::fmt;
 use triple::StoreFault;
 
