@@ -7,7 +7,7 @@ use crate::timing::{CallTime, ROUNDS};
 use anyhow::anyhow;
 use chain::ChainStore;
 use node_check::Scratch;
-use rows::{Row, RowStore};
+use rows::RowStore;
 use schema::Schema;
 use std::time::Instant;
 use triple::Store;
@@ -114,7 +114,7 @@ fn measure_rows(rt: &HostRuntime, house: House) -> anyhow::Result<Measured> {
     let mut scratch = Scratch::new();
     let mut best = Measured::NONE;
     for _ in 0..ROUNDS {
-        let mut lent = [Row::FREE; 1024];
+        let mut lent = [None; 1024];
         let store = RowStore::new(&mut lent, house.nodes());
         best = best.and(sweep_round(rt, house, store, values, &mut scratch)?);
     }

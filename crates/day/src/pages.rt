@@ -3,7 +3,7 @@ use crate::listing::{Listing, count_of};
 use crate::trouble::Trouble;
 use page::{PageFault, load, save};
 use refusal::Fault;
-use rows::{Row, RowStore};
+use rows::RowStore;
 use schema::Schema;
 use std::alloc::Global;
 use std::{fmt, fs};
@@ -128,7 +128,7 @@ fn load_into<S: Store + Drop>(store: S, page: &[u8]) -> Result<usize, PageFault>
 pub fn list_file(rt: &HostRuntime, path: &str) -> Result<PageAnswer, Trouble> {
     let bytes = read_file(rt, path)?;
     let nodes = count_of(bytes.as_slice());
-    let mut rows = vec![in rt.alloc(); Row::FREE; MOST_TRIPLES]?;
+    let mut rows = vec![in rt.alloc(); None; MOST_TRIPLES]?;
     let store = RowStore::new(rows.as_mut_slice(), nodes);
     match load_into(store, bytes.as_slice()) {
         Ok(total) => Ok(PageAnswer::Listed(Listing {

@@ -10,7 +10,7 @@ use crate::session::Session;
 use crate::telling::{list, tell};
 use crate::trouble::Trouble;
 use chain::ChainStore;
-use rows::{Row, RowStore};
+use rows::RowStore;
 use triple::{Store, StoreFault};
 use values::{TermTable, ValueTest};
 
@@ -104,7 +104,7 @@ fn run_house(rt: &HostRuntime, lines: &[Line]) -> anyhow::Result<()> {
             run_over(rt, store, &mut house, lines, first)
         }
         StoreKind::Rows(nodes, count) => {
-            let mut rows = vec![in heap; Row::FREE; usize::from(count)]?;
+            let mut rows = vec![in heap; None; usize::from(count)]?;
             let store = RowStore::new(rows.as_mut_slice(), nodes);
             run_over(rt, store, &mut house, lines, first)
         }

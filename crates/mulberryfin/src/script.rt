@@ -7,7 +7,7 @@ use crate::expected::Expected;
 use crate::session::Session;
 use crate::trouble::Trouble;
 use chain::ChainStore;
-use rows::{Row, RowStore};
+use rows::RowStore;
 use std::alloc::AllocError;
 use triple::Store;
 use values::{TermTable, ValueTest};
@@ -123,7 +123,7 @@ pub fn run(rt: &HostRuntime, text: &str) -> anyhow::Result<()> {
             run_over(rt, &mut store, &mut house, lines.as_slice(), first)
         }
         StoreKind::Rows(nodes, count) => {
-            let mut rows = vec![in heap; Row::FREE; usize::from(count)]?;
+            let mut rows = vec![in heap; None; usize::from(count)]?;
             let mut store = RowStore::new(rows.as_mut_slice(), nodes);
             run_over(rt, &mut store, &mut house, lines.as_slice(), first)
         }

@@ -3,7 +3,7 @@ use crate::format::Outcome;
 use crate::loads::{load_fresh, t};
 use chain::ChainStore;
 use model::Facts;
-use rows::{Row, RowStore};
+use rows::RowStore;
 use std::alloc::{AllocError, Global};
 use std::process::Abort;
 use std::test::Fail;
@@ -63,7 +63,7 @@ fn load_twice(rt: &impl Abort, heap: Global, page: &[u8], tally: &mut Tally) -> 
         &[t(2, 7, 0)],
         page,
     )?);
-    let mut rows = [Row::FREE; 3];
+    let mut rows = [None; 3];
     let sheet = AnswerSheet::new(&[0, 1], &[], 0);
     let store = RowStore::new(&mut rows, 3);
     let facts = one_literal(heap)?;

@@ -4,7 +4,7 @@ use crate::loads::{load_fresh, t};
 use chain::ChainStore;
 use model::Facts;
 use refusal::Layer;
-use rows::{Row, RowStore};
+use rows::RowStore;
 use std::alloc::{AllocError, Global};
 use std::process::Abort;
 use std::test::Fail;
@@ -63,7 +63,7 @@ fn refuse_entry(rt: &impl Abort, heap: Global, at: usize, triple: Triple) -> Res
 
 // A store with as many rows as entries before the refused one.
 fn fill_rows(rt: &impl Abort, heap: Global, at: usize) -> Result<(), Fail> {
-    let mut rows = [Row::FREE; 6];
+    let mut rows = [None; 6];
     let sheet = AnswerSheet::new(&[], &[], 0);
     let known = facts(heap, &[0; 4])?;
     let store = RowStore::new(&mut rows[0..at.min(6)], 4);

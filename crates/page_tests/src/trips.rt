@@ -4,7 +4,7 @@ use crate::loads::{schema, t};
 use chain::ChainStore;
 use model::has_arc;
 use page::{load, save};
-use rows::{Row, RowStore};
+use rows::RowStore;
 use std::alloc::Global;
 use std::process::Abort;
 use std::test::Fail;
@@ -82,7 +82,7 @@ fn check_trips<A: Store>(rt: &impl Abort, heap: Global, from: &A) -> Result<(), 
     if from.total() <= 512 {
         check_trip(rt, heap, from, ChainStore::new(from.node_count()))?;
     }
-    let mut rows = vec![in heap; Row::FREE; usize::from(from.total())]?;
+    let mut rows = vec![in heap; None; usize::from(from.total())]?;
     check_trip(
         rt,
         heap,
@@ -110,7 +110,7 @@ fn check_kinds(rt: &impl Abort, heap: Global, nodes: u16, puts: u16) -> Result<(
     let mut chain = ChainStore::new(nodes);
     scatter(&mut chain, puts, 2026);
     check_trips(rt, heap, &chain)?;
-    let mut rows = vec![in heap; Row::FREE; 1024]?;
+    let mut rows = vec![in heap; None; 1024]?;
     let mut store = RowStore::new(rows.as_mut_slice(), nodes);
     scatter(&mut store, puts, 1118);
     check_trips(rt, heap, &store)
@@ -137,7 +137,7 @@ fn round_trips(rt: HostRuntime) -> Result<(), Fail> {
 // 12 arcs at each of 85 nodes, and 4 at one: as many as there can be rows.
 #[test]
 fn full_fans(rt: HostRuntime) -> Result<(), Fail> {
-    let mut rows = [Row::FREE; 1024];
+    let mut rows = [None; 1024];
     let mut store = RowStore::new(&mut rows, 256);
     for i in 0..1024u16 {
         assert!(rt; store.put(t(i / 12, (i % 12) as u8, i % 256)).is_ok());

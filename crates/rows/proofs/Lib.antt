@@ -1,3 +1,2 @@
 pub mod Gains
-pub mod Steps
 pub mod Tables

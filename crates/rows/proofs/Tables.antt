@@ -1,139 +1,127 @@
 -- Tables of rows of which one is filled or freed, and the rows that a store uses. Assumes nothing.
-use Rattle.std.proofs.Common.{◌≡◌, ℕ, zero, suc, ◌+◌, ◌-◌, ◌<◌, ◌≤◌, min, true, false, ◌&&◌, eqb, List, [], ◌∷◌, ◌++◌, length, get_or, take, drop, set, replicate, sym, refl, ap, ◌∙◌, subst, ⊎_elim, arith}
+use Rattle.std.proofs.Common.{◌≡◌, ℕ, zero, suc, ◌<◌, ◌≤◌, min, Bool, true, false, cond, ◌&&◌, ◌||◌, eqb, List, [], ◌∷◌, ◌++◌, length, get_or, take, drop, set, replicate, is_some, Some, None, Option, sym, refl, ap, ◌∙◌, ⊎_elim, arith, Contains}
 use lib.Seq.{take-set-lt}
-use Rattle.std.proofs.lemmas.List.{take_all, drop_all, take_at, drop_at, append-nil, set_split, set-get_or, length-take, length-drop, length-append, length-replicate, nil_from_length}
-use Rattle.std.proofs.lemmas.Bool.{cases_lt, cases_Bool, and_parts, and_left, and_right, eq-eqb, eqb-true, ne_eqb}
-use Rattle.triple.specs.Arcs.{Arc}
+use Rattle.std.specs.List.{list_any}
+use Rattle.std.proofs.lemmas.List.{take_all, drop_all, take_at, drop_at, append-nil, set_split, set-get_or, length-set, length-take, length-drop, length-append, length-replicate, nil_from_length}
+use Rattle.std.proofs.lemmas.List.Elements.{filter_map-append}
+use Rattle.std.proofs.lemmas.List.Sums.{sum_by-cons, sum_by-set, count_by-le-length}
+use Rattle.std.proofs.lemmas.Bool.{cases_lt, cases_Bool, eq-eqb, eqb-true, ne_eqb}
+use Rattle.triple.specs.Arcs.{Arc, has, same}
 use Rattle.triple.specs.Stores.{total, Lawful}
+use Rattle.triple.specs.declared.store.Triple.{Triple}
 use Rattle.triple.proofs.Changes.{same_true, total_none}
-use Rattle.triple.proofs.Totals.{total_same, total_more}
-use Rattle.rows.specs.declared.row.Row.{Row}
+use Rattle.triple.proofs.Totals.{total_more}
 use Rattle.rows.specs.declared.store.RowStore.{RowStore}
-use Rattle.rows.specs.Table.{full, free, of, holds, used, arcs_in, arcs_of}
+use Rattle.rows.specs.Table.{full, free, arc_of, used, arcs_in, arcs_of}
 use Rattle.rows.proofs.Gains.{Gains}
 
--- a row and the rows after it
+-- the arcs where a row is set
 
-arcs_first : (n : ℕ) (row : Row) (rows : List Row) → of n row ≡ true → arcs_in n (row ∷ rows) ≡ (row.triple.property, row.triple.object) ∷ arcs_in n rows
-arcs_first n row rows e = rw e refl
-
-arcs_skip : (n : ℕ) (row : Row) (rows : List Row) → of n row ≡ false → arcs_in n (row ∷ rows) ≡ arcs_in n rows
-arcs_skip n row rows e = rw e refl
-
-arcs_append : (n : ℕ) (xs ys : List Row) → arcs_in n (xs ++ ys) ≡ arcs_in n xs ++ arcs_in n ys
-arcs_append n [] ys = refl
-arcs_append n (x ∷ xs) ys =
-    ⊎_elim
-    (λ (e : of n x ≡ true). rw e (ap (λ arcs. (x.triple.property, x.triple.object) ∷ arcs) (arcs_append n xs ys)))
-    (λ (e : of n x ≡ false). rw e (arcs_append n xs ys))
-    (cases_Bool (of n x))
-
-arcs_set : (n : ℕ) (rows : List Row) (i : ℕ) (row : Row) → i < length rows → arcs_in n (set rows i row) ≡ arcs_in n (take i rows) ++ arcs_in n (row ∷ drop (suc i) rows)
-arcs_set n rows i row l = ap (arcs_in n) (set_split rows i row l) ∙ arcs_append n (take i rows) (row ∷ drop (suc i) rows)
+arcs_set : (n : ℕ) (rows : List (Option Triple)) (i : ℕ) (row : Option Triple) → i < length rows → arcs_in n (set rows i row) ≡ arcs_in n (take i rows) ++ arcs_in n (row ∷ drop (suc i) rows)
+arcs_set n rows i row l = ap (arcs_in n) (set_split rows i row l) ∙ filter_map-append (arc_of n) (take i rows) (row ∷ drop (suc i) rows)
 
 -- the row i of a table, free in the one and full in the other
-table_gains : (rows : List Row) (i s p o : ℕ) (vacant taken : Row) → i < length rows → vacant.used ≡ false → holds s p o taken ≡ true
-    → Gains (λ n. arcs_in n (set rows i vacant)) (λ n. arcs_in n (set rows i taken)) s p o
-table_gains rows i s p o vacant taken l e h =
-    let parts = and_parts (of s taken) _ h in
-    let subject : taken.triple.subject ≡ s = eqb-true _ _ (and_parts taken.used _ parts.0).1 in
-    let skip : (n : ℕ) → arcs_in n (set rows i vacant) ≡ arcs_in n (take i rows) ++ arcs_in n (drop (suc i) rows) =
-    λ n. arcs_set n rows i vacant l ∙ ap (λ arcs. arcs_in n (take i rows) ++ arcs) (arcs_skip n vacant (drop (suc i) rows) (and_left _ _ e)) in
+table_gains : (rows before after : List (Option Triple)) (i s p o : ℕ) → i < length rows → before ≡ set rows i free → after ≡ set rows i (full s p o) → Gains (λ n. arcs_in n before) (λ n. arcs_in n after) s p o
+table_gains rows before after i s p o l vacant taken =
     record {
       left = arcs_in s (take i rows);
       right = arcs_in s (drop (suc i) rows);
-      without = skip s;
-      with = arcs_set s rows i taken l ∙ ap (λ arcs. arcs_in s (take i rows) ++ arcs) (arcs_first s taken (drop (suc i) rows) parts.0 ∙ ap (λ (arc : Arc). arc ∷ arcs_in s (drop (suc i) rows)) (same_true _ p o parts.1));
-      others = λ n d. let other : of n taken ≡ false = ap (λ m. taken.used && eqb m n) subject ∙ and_right taken.used (eqb s n) (ne_eqb s n (λ q. d (sym q))) in
-          arcs_set n rows i taken l ∙ ap (λ arcs. arcs_in n (take i rows) ++ arcs) (arcs_skip n taken (drop (suc i) rows) other) ∙ sym (skip n);
+      without = ap (arcs_in s) vacant ∙ arcs_set s rows i free l;
+      with = ap (arcs_in s) taken ∙ arcs_set s rows i (full s p o) l ∙ rw (eq-eqb s s refl) refl;
+      others = λ n d. ap (arcs_in n) taken ∙ arcs_set n rows i (full s p o) l ∙ rw (ne_eqb s n (λ q. d (sym q))) (sym (ap (arcs_in n) vacant ∙ arcs_set n rows i free l));
     }
 
 -- the first 1,024 rows
 
-pub take_front : (rows : List Row) (n : ℕ) → n ≡ min (length rows) 1024 → take (n - 0) rows ≡ take 1024 rows
+pub take_front : (rows : List (Option Triple)) (n : ℕ) → n ≡ min (length rows) 1024 → take (n) rows ≡ take 1024 rows
 take_front rows n e =
     ⊎_elim
-    (λ (h : length rows < 1024). take_all (n - 0) rows (omega arith) ∙ sym (take_all 1024 rows (omega arith)))
-    (λ (h : 1024 ≤ length rows). let whole : n - 0 ≡ 1024 = omega arith in ap (λ k. take k rows) whole)
+    (λ (h : length rows < 1024). take_all (n) rows (omega arith) ∙ sym (take_all 1024 rows (omega arith)))
+    (λ (h : 1024 ≤ length rows). let whole : n ≡ 1024 = omega arith in ap (λ k. take k rows) whole)
     (cases_lt (length rows) 1024)
 
-drop_front : (rows : List Row) (n : ℕ) → n ≡ min (length rows) 1024 → drop (n - 0) rows ≡ drop 1024 rows
+drop_front : (rows : List (Option Triple)) (n : ℕ) → n ≡ min (length rows) 1024 → drop (n) rows ≡ drop 1024 rows
 drop_front rows n e =
     ⊎_elim
-    (λ (h : length rows < 1024). drop_all (n - 0) rows (omega arith) ∙ sym (drop_all 1024 rows (omega arith)))
-    (λ (h : 1024 ≤ length rows). let whole : n - 0 ≡ 1024 = omega arith in ap (λ k. drop k rows) whole)
+    (λ (h : length rows < 1024). drop_all (n) rows (omega arith) ∙ sym (drop_all 1024 rows (omega arith)))
+    (λ (h : 1024 ≤ length rows). let whole : n ≡ 1024 = omega arith in ap (λ k. drop k rows) whole)
     (cases_lt (length rows) 1024)
 
-pub length_front : (rows : List Row) → length (take 1024 rows) ≡ min (length rows) 1024
+pub length_front : (rows : List (Option Triple)) → length (take 1024 rows) ≡ min (length rows) 1024
 length_front rows = omega (arith, length-take 1024 rows)
 
-module _ (rows : List Row) (i s p o : ℕ) (d : Row) (l : i < length (take 1024 rows)) where
-  in_front : i < 1024
-  in_front = omega (arith, length_front rows)
+module _ (rows : List (Option Triple)) (i s p o : ℕ) (l : i < length (take 1024 rows)) where
+  front_set : (row : Option Triple) → take 1024 (set rows i row) ≡ set (take 1024 rows) i row
+  front_set row = take-set-lt 1024 rows i row (omega (arith, length_front rows))
 
-  front_set : (row : Row) → take 1024 (set rows i row) ≡ set (take 1024 rows) i row
-  front_set row = take-set-lt 1024 rows i row in_front
+  -- a row set to what it holds
+  front_same : (row : Option Triple) → get_or (take 1024 rows) i free ≡ row → take 1024 rows ≡ set (take 1024 rows) i row
+  front_same row e = sym (ap (set (take 1024 rows) i) (sym e) ∙ set-get_or (take 1024 rows) i free)
 
-  front_same : set (take 1024 rows) i (get_or (take 1024 rows) i d) ≡ take 1024 rows
-  front_same = set-get_or (take 1024 rows) i d
+  pub put_gains : get_or (take 1024 rows) i free ≡ free → Gains (arcs_of rows) (arcs_of (set rows i (full s p o))) s p o
+  put_gains e = table_gains (take 1024 rows) _ _ i s p o l (front_same free e) (front_set (full s p o))
 
-  pub put_gains : (get_or (take 1024 rows) i d).used ≡ false → Gains (arcs_of rows) (arcs_of (set rows i (full s p o))) s p o
-  put_gains e =
-      let g = table_gains (take 1024 rows) i s p o (get_or (take 1024 rows) i d) (full s p o) l e (rw (eq-eqb s s refl, eq-eqb p p refl, eq-eqb o o refl) refl) in
-      subst (λ (xs : List Row). Gains (λ n. arcs_in n xs) (arcs_of (set rows i (full s p o))) s p o) front_same
-      (subst (λ (xs : List Row). Gains (λ n. arcs_in n (set (take 1024 rows) i (get_or (take 1024 rows) i d))) (λ n. arcs_in n xs) s p o) (sym (front_set (full s p o))) g)
+  pub take_gains : get_or (take 1024 rows) i free ≡ full s p o → Gains (arcs_of (set rows i free)) (arcs_of rows) s p o
+  take_gains e = table_gains (take 1024 rows) _ _ i s p o l (front_set free) (front_same (full s p o) e)
 
-  pub take_gains : holds s p o (get_or (take 1024 rows) i d) ≡ true → Gains (arcs_of (set rows i free)) (arcs_of rows) s p o
-  take_gains e =
-      let g = table_gains (take 1024 rows) i s p o free (get_or (take 1024 rows) i d) l refl e in
-      subst (λ (xs : List Row). Gains (arcs_of (set rows i free)) (λ n. arcs_in n xs) s p o) front_same
-      (subst (λ (xs : List Row). Gains (λ n. arcs_in n xs) (λ n. arcs_in n (set (take 1024 rows) i (get_or (take 1024 rows) i d))) s p o) (sym (front_set free)) g)
+-- rows that are not in a table
 
--- how many rows are in use
+later : (x row : Option Triple) (rows : List (Option Triple)) → ¬ Contains (x ∷ rows) row → ¬ Contains rows row
+later x row rows none c = none (suc c.0, omega (arith, c.1), c.2)
 
-used_first : (row : Row) (rows : List Row) → row.used ≡ true → used (row ∷ rows) ≡ 1 + used rows
-used_first row rows e = rw e refl
-
-used_skip : (row : Row) (rows : List Row) → row.used ≡ false → used (row ∷ rows) ≡ 0 + used rows
-used_skip row rows e = rw e refl
-
--- each row in use has a subject below the node count, so the rows in use are the arcs of the nodes
-pub used_total : (nodes : ℕ) (rows : List Row) → ((n : ℕ) → nodes ≤ n → length (arcs_in n rows) ≡ 0) → used rows ≡ total nodes (λ n. arcs_in n rows)
-used_total nodes [] past = sym (total_none (λ n. []) nodes (λ n. refl))
-used_total nodes (row ∷ rows) past =
-    let rest = used_total nodes rows (λ n h. rest_none n (past n h)) in
-    let s = row.triple.subject in
+pub none_has : (rows : List (Option Triple)) (s p o : ℕ) → ¬ Contains rows (full s p o) → has p o (arcs_in s rows) ≡ false
+none_has [] s p o none = refl
+none_has (None ∷ rows) s p o none = none_has rows s p o (later None (full s p o) rows none)
+none_has (Some t ∷ rows) s p o none =
+    let rest = none_has rows s p o (later (Some t) (full s p o) rows none) in
     ⊎_elim
-    (λ (e : row.used ≡ true).
-    let mine : of s row ≡ true = rw (e, eq-eqb s s refl) refl in
-    let longer = ap length (arcs_first s row rows mine) in
-    let below : s < nodes = ⊎_elim (λ (h : s < nodes). h) (λ (h : nodes ≤ s). let none = past s h in absurd (omega arith)) (cases_lt s nodes) in
-    let more = total_more (λ n. arcs_in n rows) (λ n. arcs_in n (row ∷ rows)) s nodes below longer (λ n d. arcs_skip n row rows (and_right _ _ (ne_eqb s n (λ q. d (sym q))))) in
-    omega (arith, used_first row rows e, more, rest))
-    (λ (e : row.used ≡ false).
-    let same_total = total_same (λ n. arcs_in n rows) (λ n. arcs_in n (row ∷ rows)) nodes (λ n h. arcs_skip n row rows (and_left _ _ e)) in
-    omega (arith, used_skip row rows e, same_total, rest))
-    (cases_Bool row.used)
+    (λ (e : eqb t.subject s ≡ true).
+    ⊎_elim
+    (λ (q : same (t.property, t.object) p o ≡ true). absurd (none (0, omega arith, held t (eqb-true _ _ e) (same_true _ p o q))))
+    (λ (q : same (t.property, t.object) p o ≡ false). rw (e, q) rest)
+    (cases_Bool (same (t.property, t.object) p o)))
+    (λ (e : eqb t.subject s ≡ false). rw e rest)
+    (cases_Bool (eqb t.subject s))
   where
-    rest_none : (n : ℕ) → length (arcs_in n (row ∷ rows)) ≡ 0 → length (arcs_in n rows) ≡ 0
-    rest_none n h =
-        ⊎_elim
-        (λ (e : of n row ≡ true). let longer = ap length (arcs_first n row rows e) in absurd (omega arith))
-        (λ (e : of n row ≡ false). ap length (sym (arcs_skip n row rows e)) ∙ h)
-        (cases_Bool (of n row))
+    held : (t : Triple) → t.subject ≡ s → ◌≡◌ {A = Arc} (t.property, t.object) (p, o) → Some t ≡ full s p o
+    held t e q = ap (λ x. full x t.property t.object) e ∙ ap (λ (a : Arc). full s a.0 a.1) q
 
-used_most : (rows : List Row) → used rows ≤ length rows
-used_most [] = omega arith
-used_most (row ∷ rows) =
-    let rest = used_most rows in
-    ⊎_elim (λ (e : row.used ≡ true). omega (arith, used_first row rows e)) (λ (e : row.used ≡ false). omega (arith, used_skip row rows e)) (cases_Bool row.used)
+pub any_has : (alike : Option Triple → Bool) (s p o : ℕ) → alike None ≡ false → ((t : Triple) → alike (Some t) ≡ (eqb t.subject s && same (t.property, t.object) p o))
+    → (rows : List (Option Triple)) → list_any alike rows ≡ has p o (arcs_in s rows)
+any_has alike s p o none some [] = refl
+any_has alike s p o none some (None ∷ rows) = rw none (any_has alike s p o none some rows)
+any_has alike s p o none some (Some t ∷ rows) =
+    ⊎_elim
+    (λ (e : eqb t.subject s ≡ true). rw (some t, e) (ap (λ b. same (t.property, t.object) p o || b) (any_has alike s p o none some rows)))
+    (λ (e : eqb t.subject s ≡ false). rw (some t, e) (any_has alike s p o none some rows))
+    (cases_Bool (eqb t.subject s))
 
-pub used_below : (rows : List Row) (i : ℕ) (d : Row) → i < length rows → (get_or rows i d).used ≡ false → used rows < length rows
-used_below [] i d l e = absurd (omega arith)
-used_below (row ∷ rows) zero d l e = omega (arith, used_skip row rows e, used_most rows)
-used_below (row ∷ rows) (suc i) d l e =
-    let rest = used_below rows i d (omega arith) e in
-    ⊎_elim (λ (f : row.used ≡ true). omega (arith, used_first row rows f)) (λ (f : row.used ≡ false). omega (arith, used_skip row rows f)) (cases_Bool row.used)
+pub none_free : (rows : List (Option Triple)) → ¬ Contains rows free → used rows ≡ length rows
+none_free [] none = refl
+none_free (None ∷ rows) none = absurd (none (0, omega arith, refl))
+none_free (Some t ∷ rows) none = omega (arith, sum_by-cons (λ row. cond (is_some row) 1 0) (Some t) rows, none_free rows (later (Some t) free rows none))
+
+-- how many rows hold a triple
+
+-- each triple has a subject below the node count, so the triples are the arcs of the nodes
+pub used_total : (nodes : ℕ) (rows : List (Option Triple)) → ((n : ℕ) → nodes ≤ n → length (arcs_in n rows) ≡ 0) → used rows ≡ total nodes (λ n. arcs_in n rows)
+used_total nodes [] past = sym (total_none (λ n. []) nodes (λ n. refl))
+used_total nodes (None ∷ rows) past = omega (arith, sum_by-cons (λ (row : Option Triple). cond (is_some row) 1 0) None rows, used_total nodes rows past)
+used_total nodes (Some t ∷ rows) past =
+    let row = Some t in
+    let s = t.subject in
+    let longer : length (arcs_in s (row ∷ rows)) ≡ suc (length (arcs_in s rows)) = rw (eq-eqb s s refl) refl in
+    let skip : (n : ℕ) → (n ≡ s → ⊥) → arcs_in n (row ∷ rows) ≡ arcs_in n rows = λ n d. rw (ne_eqb s n (λ q. d (sym q))) refl in
+    let below : s < nodes = ⊎_elim (λ (h : s < nodes). h) (λ (h : nodes ≤ s). let none = past s h in absurd (omega arith)) (cases_lt s nodes) in
+    let rest = used_total nodes rows (λ n h. ap length (sym (skip n (omega arith))) ∙ past n h) in
+    omega (arith, sum_by-cons (λ (row : Option Triple). cond (is_some row) 1 0) row rows, rest, total_more (λ n. arcs_in n rows) (λ n. arcs_in n (row ∷ rows)) s nodes below longer skip)
+
+pub used_below : (rows : List (Option Triple)) (i : ℕ) → i < length rows → get_or rows i free ≡ free → used rows < length rows
+used_below rows i l e =
+    let row = full 0 0 0 in
+    let more = sum_by-set (λ (row : Option Triple). cond (is_some row) 1 0) rows i row free l in
+    let one : ◌≡◌ {A = ℕ} (cond (is_some (get_or rows i free)) 1 0) 0 = rw e refl in
+    omega (arith, more, one, count_by-le-length is_some (set rows i row), length-set rows i row)
 
 -- free rows
 
@@ -141,7 +129,7 @@ arcs_free : (n k : ℕ) → arcs_in n (replicate k free) ≡ []
 arcs_free n zero = refl
 arcs_free n (suc k) = arcs_free n k
 
-front_free : (rows : List Row) → take 1024 (replicate (min (length rows) 1024) free ++ drop 1024 rows) ≡ replicate (min (length rows) 1024) free
+front_free : (rows : List (Option Triple)) → take 1024 (replicate (min (length rows) 1024) free ++ drop 1024 rows) ≡ replicate (min (length rows) 1024) free
 front_free rows =
     let k = min (length rows) 1024 in
     ⊎_elim
@@ -150,16 +138,16 @@ front_free rows =
     (cases_lt (length rows) 1024)
 
 -- the table after the first n rows, which are those that a store uses, were freed
-pub made : (rows front : List Row) (n : ℕ) → n ≡ min (length rows) 1024 → front ≡ replicate (length (take (n - 0) rows)) free
-    → front ++ drop (n - 0) rows ≡ replicate (min (length rows) 1024) free ++ drop 1024 rows
+pub made : (rows front : List (Option Triple)) (n : ℕ) → n ≡ min (length rows) 1024 → front ≡ replicate (length (take (n) rows)) free
+    → front ++ drop (n) rows ≡ replicate (min (length rows) 1024) free ++ drop 1024 rows
 made rows front n e f =
-    let size : length (take (n - 0) rows) ≡ min (length rows) 1024 = omega (arith, e, length-take (n - 0) rows) in
-    ap (λ xs. xs ++ drop (n - 0) rows) (f ∙ ap (λ k. replicate k free) size) ∙ ap (λ xs. replicate (min (length rows) 1024) free ++ xs) (drop_front rows n e)
+    let size : length (take (n) rows) ≡ min (length rows) 1024 = omega (arith, e, length-take (n) rows) in
+    ap (λ xs. xs ++ drop (n) rows) (f ∙ ap (λ k. replicate k free) size) ∙ ap (λ xs. replicate (min (length rows) 1024) free ++ xs) (drop_front rows n e)
 
-pub length_made : (rows : List Row) → length (replicate (min (length rows) 1024) free ++ drop 1024 rows) ≡ length rows
+pub length_made : (rows : List (Option Triple)) → length (replicate (min (length rows) 1024) free ++ drop 1024 rows) ≡ length rows
 length_made rows = simp (length-append, length-replicate, length-drop) (omega arith)
 
-pub drop_made : (rows : List Row) → drop 1024 (replicate (min (length rows) 1024) free ++ drop 1024 rows) ≡ drop 1024 rows
+pub drop_made : (rows : List (Option Triple)) → drop 1024 (replicate (min (length rows) 1024) free ++ drop 1024 rows) ≡ drop 1024 rows
 drop_made rows =
     let k = min (length rows) 1024 in
     ⊎_elim
@@ -167,7 +155,7 @@ drop_made rows =
     (λ (h : 1024 ≤ length rows). drop_at (replicate k free) (drop 1024 rows) 1024 (omega (arith, length-replicate k free)))
     (cases_lt (length rows) 1024)
 
-pub arcs_none : (rows : List Row) (n : ℕ) → arcs_of (replicate (min (length rows) 1024) free ++ drop 1024 rows) n ≡ []
+pub arcs_none : (rows : List (Option Triple)) (n : ℕ) → arcs_of (replicate (min (length rows) 1024) free ++ drop 1024 rows) n ≡ []
 arcs_none rows n = ap (arcs_in n) (front_free rows) ∙ arcs_free n (min (length rows) 1024)
 
 -- the facts of the struct's ghost fields

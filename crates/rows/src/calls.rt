@@ -1,18 +1,25 @@
 // The row store as a triple store.
-ghost use Rattle.std.specs.Prelude.{◌≡◌, ℕ, ◌<◌, min, true, false, [], ◌++◌, length, get_or, take, drop, replicate, MatchOption, MatchResult, ◌==◌, slice_index_or};
-ghost use Rattle.triple.specs.Arcs.{has};
+ghost use Rattle.std.specs.Prelude.{◌≡◌, ℕ, ◌<◌, min, [], ◌++◌, length, take, drop, replicate, MatchOption, MatchResult, slice_index_or, Contains};
 ghost use Rattle.triple.specs.Faults.{refusal};
 ghost use Rattle.triple.specs.Stores.{present, put_refusal, take_refusal, Added, Removed};
-ghost use Rattle.rows.specs.Table.{free, holds, used, arcs_of};
+ghost use Rattle.rows.specs.Table.{free, arc_of, arcs_of};
 
-use crate::row::Row;
-use crate::scans::{arc_in, fan_in, find_free_in, find_in, free_all, front, used_in};
 use crate::store::{MAX_ROWS, RowStore};
 use triple::{MAX_FAN, MAX_NODES, Store, StoreFault, Triple};
 
+// The arc of the row's triple, if the row holds one of the node.
+fn arc_of(row: &Option<Triple>, node: u16) -> Option<(u8, u16)>
+    ensures { result ≡ arc_of node row.now }
+{
+    match row {
+        Some(triple) if triple.subject == node => Some((triple.property, triple.object)),
+        _ => None,
+    }
+}
+
 impl<'a> RowStore<'a> {
     // Frees the first 1,024 rows, and touches no later one; more than 256 nodes are read as 256.
-    pub fn new(rows: &'a mut [Row], nodes: u16) -> RowStore<'a>
+    pub fn new(rows: &'a mut [Option<Triple>], nodes: u16) -> RowStore<'a>
         ensures nodes { result.nodes ≡ min nodes 256 }
         ensures after { result.rows.now ≡ replicate (min (length rows.old) 1024) free ++ drop 1024 rows.old }
         ensures held { result.rows.ghost_name ≡ rows.entry.ghost_name }
@@ -21,37 +28,31 @@ impl<'a> RowStore<'a> {
         ensures empty { (n : ℕ) → arcs_of result.rows.now n ≡ [] }
     {
         let count = rows.len().min(MAX_ROWS);
-        free_all(&mut rows[0..count]);
+        rows[..count].fill(None);
         RowStore {
             rows,
             nodes: nodes.min(MAX_NODES),
         }
     }
 
-    // The row that holds the triple, if one does.
-    fn find(&self, triple: Triple) -> Option<usize>
-        ensures { MatchOption result (has triple.property triple.object (arcs_of self.now.rows.now triple.subject) ≡ false) (λ i. (i < length (take 1024 self.now.rows.now)) × (holds triple.subject triple.property triple.object (slice_index_or (take 1024 self.now.rows.now) i free) ≡ true)) }
+    // The rows that the store uses.
+    fn front(&self) -> &[Option<Triple>]
+        ensures { result.now ≡ take 1024 self.now.rows.now }
     {
-        find_in(front(self.rows), triple)
+        &self.rows[..self.rows.len().min(MAX_ROWS)]
+    }
+
+    // The first row that is this one.
+    fn find(&self, row: Option<Triple>) -> Option<usize>
+        ensures { MatchOption result (¬ Contains (take 1024 self.now.rows.now) row) (λ i. (i < length (take 1024 self.now.rows.now)) × (slice_index_or (take 1024 self.now.rows.now) i free ≡ row)) }
+    {
+        self.front().iter().position(|held| *held == row)
     }
 
     fn is_present(&self, triple: Triple) -> bool
         ensures { result ≡ present (arcs_of self.now.rows.now) triple.subject triple.property triple.object }
     {
-        self.find(triple).is_some()
-    }
-
-    // A row that is not in use, if there is one.
-    fn find_free(&self) -> Option<usize>
-        ensures { MatchOption result (used (take 1024 self.now.rows.now) ≡ length (take 1024 self.now.rows.now)) (λ i. (i < length (take 1024 self.now.rows.now)) × ((get_or (take 1024 self.now.rows.now) i free).used ≡ false)) }
-    {
-        find_free_in(front(self.rows))
-    }
-
-    fn is_node_full(&self, node: u16) -> bool
-        ensures { result ≡ (length (arcs_of self.now.rows.now node) == 12) }
-    {
-        self.fan(node) == MAX_FAN
+        self.front().contains(&Some(triple))
     }
 }
 
@@ -73,15 +74,21 @@ impl<'a> Store for RowStore<'a> {
     }
 
     fn total(&self) -> u16 {
-        used_in(front(self.rows)) as u16
+        self.front().iter().filter(|row| row.is_some()).count() as u16
     }
 
     fn fan(&self, node: u16) -> u8 {
-        fan_in(front(self.rows), node) as u8
+        self.front()
+            .iter()
+            .filter_map(|row| arc_of(row, node))
+            .count() as u8
     }
 
     fn arc(&self, node: u16, place: u8) -> Option<(u8, u16)> {
-        arc_in(front(self.rows), node, place)
+        self.front()
+            .iter()
+            .filter_map(|row| arc_of(row, node))
+            .nth(usize::from(place))
     }
 
     fn put(&mut self, triple: Triple) -> Result<(), StoreFault>
@@ -91,22 +98,17 @@ impl<'a> Store for RowStore<'a> {
         ensures held { self.new.rows.ghost_name ≡ self.old.rows.ghost_name }
         ensures same { drop 1024 self.new.rows.now ≡ drop 1024 self.old.rows.now }
     {
-        if triple.subject >= self.nodes {
-            return Err(StoreFault::NoSubject);
-        }
-        if triple.object >= self.nodes {
-            return Err(StoreFault::NoObject);
-        }
+        triple.check_nodes(self.nodes)?;
         if self.is_present(triple) {
             return Err(StoreFault::Present);
         }
-        if self.is_node_full(triple.subject) {
+        if self.fan(triple.subject) == MAX_FAN {
             return Err(StoreFault::FullNode);
         }
-        let Some(row) = self.find_free() else {
+        let Some(row) = self.find(None) else {
             return Err(StoreFault::FullStore);
         };
-        self.rows[row] = Row { used: true, triple };
+        self.rows[row] = Some(triple);
         Ok(())
     }
 
@@ -117,16 +119,11 @@ impl<'a> Store for RowStore<'a> {
         ensures held { self.new.rows.ghost_name ≡ self.old.rows.ghost_name }
         ensures same { drop 1024 self.new.rows.now ≡ drop 1024 self.old.rows.now }
     {
-        if triple.subject >= self.nodes {
-            return Err(StoreFault::NoSubject);
-        }
-        if triple.object >= self.nodes {
-            return Err(StoreFault::NoObject);
-        }
-        let Some(row) = self.find(triple) else {
+        triple.check_nodes(self.nodes)?;
+        let Some(row) = self.find(Some(triple)) else {
             return Err(StoreFault::Absent);
         };
-        self.rows[row] = Row::FREE;
+        self.rows[row] = None;
         Ok(())
     }
 }

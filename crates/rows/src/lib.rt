@@ -2,9 +2,6 @@
 #![tactic(auto)]
 
 mod calls;
-mod row;
-mod scans;
 mod store;
 
-pub use row::Row;
 pub use store::RowStore;

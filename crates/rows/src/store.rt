@@ -4,14 +4,14 @@ ghost use Rattle.triple.specs.Arcs.{distinct, inside};
 ghost use Rattle.triple.specs.Stores.{total};
 ghost use Rattle.rows.specs.Table.{arcs_of};
 
-use crate::row::Row;
+use triple::Triple;
 
 // The most rows that a store uses; it never writes to a later one.
 pub(crate) const MAX_ROWS: usize = 1024;
 
 #[derive(Drop)]
 pub struct RowStore<'a> {
-    pub(crate) rows: &'a mut [Row],
+    pub(crate) rows: &'a mut [Option<Triple>],
     pub(crate) nodes: u16,
     ghost small: { nodes ≤ 256 },
     ghost few: { (n : ℕ) → length (arcs_of rows.now n) ≤ 12 },

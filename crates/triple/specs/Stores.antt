@@ -3,6 +3,7 @@
 --     present arcs s p o     the triple (s, p, o) is in the store
 --     total n arcs           how many arcs the nodes below n have in all
 --     Lawful                 what holds of every store
+--     node_refusal           how a triple is refused that leads from or to no node
 --     put_refusal            how a put refuses, if it does; take_refusal, how a take does
 --     Added, Removed         the triples after an accepted put, and after an accepted take
 use Rattle.std.specs.Prelude.{◌≡◌, ℕ, zero, suc, ◌+◌, ◌≤◌, Bool, true, not, ◌&&◌, ◌||◌, List, [], ◌∷◌, length, Option, ◌==◌, nat_le}
@@ -28,6 +29,9 @@ pub record Lawful (nodes capacity : ℕ) (arcs : Lists) : Type 0 where
   pub within : (n : ℕ) → inside nodes (arcs n) ≡ true
   pub past : (n : ℕ) → nodes ≤ n → arcs n ≡ []
   pub room : total nodes arcs ≤ capacity
+
+abbrev pub node_refusal : (nodes s o : ℕ) → Option Refusal
+node_refusal nodes s o = first ((nat_le nodes s, (Store, 7)) ∷ (nat_le nodes o, (Store, 8)) ∷ [])
 
 abbrev pub put_refusal : (nodes capacity : ℕ) → Lists → (s p o : ℕ) → Option Refusal
 put_refusal nodes capacity arcs s p o =

@@ -2,7 +2,7 @@
 ghost use Rattle.std.specs.Prelude.{◌≡◌, ℕ, List, length, MatchResult};
 ghost use Rattle.std.specs.List.{slice_get};
 ghost use Rattle.triple.specs.Faults.{refusal};
-ghost use Rattle.triple.specs.Stores.{total, Lawful, put_refusal, take_refusal, Added, Removed};
+ghost use Rattle.triple.specs.Stores.{total, Lawful, node_refusal, put_refusal, take_refusal, Added, Removed};
 
 use crate::fault::StoreFault;
 
@@ -17,6 +17,21 @@ pub struct Triple {
     pub subject: u16,
     pub property: u8,
     pub object: u16,
+}
+
+impl Triple {
+    // Refuses a triple whose subject or object is not one of the first `nodes` nodes.
+    pub fn check_nodes(self, nodes: u16) -> Result<(), StoreFault>
+        ensures { refusal result ≡ node_refusal nodes self.subject self.object }
+    {
+        if self.subject >= nodes {
+            return Err(StoreFault::NoSubject);
+        }
+        if self.object >= nodes {
+            return Err(StoreFault::NoObject);
+        }
+        Ok(())
+    }
 }
 
 pub trait Store {

@@ -2,7 +2,7 @@
 use crate::schemas::accepted;
 use chain::ChainStore;
 use draft::{Draft, PropertySet, ShapeRow, TripleRow};
-use rows::{Row, RowStore};
+use rows::RowStore;
 use schema::Schema;
 use std::process::Abort;
 use std::test::Fail;
@@ -138,7 +138,7 @@ fn small_house(rt: HostRuntime) -> Result<(), Fail> {
     let sheet = AnswerSheet::new(&[0, 0, 1, 1], &[0, 0, 1, 0], 1);
     check_house(&rt, ChainStore::new(4), table)?;
     check_house(&rt, ChainStore::new(4), sheet)?;
-    let mut rows = [Row::FREE; 4];
+    let mut rows = [None; 4];
     check_house(&rt, RowStore::new(&mut rows, 4), table)?;
     check_house(&rt, RowStore::new(&mut rows, 4), sheet)
 }

@@ -2,7 +2,7 @@
 use crate::schemas::accepted;
 use chain::ChainStore;
 use draft::{Draft, PropertySet, ShapeRow, TripleRow};
-use rows::{Row, RowStore};
+use rows::RowStore;
 use schema::Schema;
 use std::process::Abort;
 use std::test::Fail;
@@ -125,6 +125,6 @@ fn check_show<S: Store + Drop>(rt: &impl Abort, mut store: S) -> Result<(), Fail
 #[test]
 fn late_show(rt: HostRuntime) -> Result<(), Fail> {
     check_show(&rt, ChainStore::new(6))?;
-    let mut rows = [Row::FREE; 9];
+    let mut rows = [None; 9];
     check_show(&rt, RowStore::new(&mut rows, 6))
 }

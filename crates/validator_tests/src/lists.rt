@@ -6,7 +6,7 @@ use crate::world::{TESTS, bytes, facts, terms};
 use chain::ChainStore;
 use draft::Draft;
 use model::{Book, find_references, strata, stratifies};
-use rows::{Row, RowStore};
+use rows::RowStore;
 use std::alloc::Global;
 use std::process::Abort;
 use std::test::Fail;
@@ -79,7 +79,7 @@ fn by_terms(rt: &impl Abort, plan: Plan, draft: &Draft, tally: &mut Tally) -> Re
     let records = terms(plan.heap, plan.nodes.saturating_sub(1))?;
     let table = TermTable::new(records.as_slice(), &TESTS);
     run(rt, plan, draft, ChainStore::new(plan.nodes), table, tally)?;
-    let mut rows = vec![in plan.heap; Row::FREE; plan.rows]?;
+    let mut rows = vec![in plan.heap; None; plan.rows]?;
     let store = RowStore::new(rows.as_mut_slice(), plan.nodes);
     run(rt, plan, draft, store, table, tally)
 }
@@ -90,7 +90,7 @@ fn by_sheet(rt: &impl Abort, plan: Plan, draft: &Draft, tally: &mut Tally) -> Re
     let answers = bytes(plan.heap, known.passes.as_slice())?;
     let sheet = AnswerSheet::new(literals.as_slice(), answers.as_slice(), 4);
     run(rt, plan, draft, ChainStore::new(plan.nodes), sheet, tally)?;
-    let mut rows = vec![in plan.heap; Row::FREE; plan.rows]?;
+    let mut rows = vec![in plan.heap; None; plan.rows]?;
     let store = RowStore::new(rows.as_mut_slice(), plan.nodes);
     run(rt, plan, draft, store, sheet, tally)
 }

@@ -3,7 +3,7 @@ use crate::schemas::accepted;
 use chain::ChainStore;
 use draft::{Draft, PropertySet, ShapeRow, TripleRow};
 use refusal::{Fault, Layer};
-use rows::{Row, RowStore};
+use rows::RowStore;
 use schema::Schema;
 use std::process::Abort;
 use std::test::Fail;
@@ -238,7 +238,7 @@ fn refusals(rt: HostRuntime) -> Result<(), Fail> {
     every_state(&rt, ChainStore::new(NODES), TermTable::new(&terms, &tests))?;
     let mut literals = [2; 44];
     literals[43] = 1;
-    let mut rows = [Row::FREE; 512];
+    let mut rows = [None; 512];
     every_state(
         &rt,
         RowStore::new(&mut rows, NODES),

@@ -1,4 +1,4 @@
-use Rattle.std.proofs.Common.{◌≡◌, ℕ, ◌-◌, [], ◌++◌, length, drop, refl, ap, ◌∙◌, arith}
+use Rattle.std.proofs.Common.{rules, ◌≡◌, ℕ, [], ◌++◌, length, drop, refl, ap, ◌∙◌, arith}
 use Rattle.triple.proofs.Changes.{total_none}
 use Rattle.rows.specs.Table.{arcs_of}
 use Rattle.rows.proofs.Tables.{made, length_made, drop_made, arcs_none}
@@ -6,8 +6,8 @@ use Rattle.rows.proofs.store.RowStore.new.Goals as goal
 use Rattle.rows.proofs.store.RowStore.new.Goals.{After-min}
 
 -- the rows are freed, so that no node has an arc
-bare : (c : After-min) (n : ℕ) → arcs_of (c.free_all.new.rows ++ drop (c.min-count.result - 0) c.args.rows.now) n ≡ []
-bare c n = ap (λ rows. arcs_of rows n) (made c.args.rows.now c.free_all.new.rows c.min-count.result c.min-count.ensures c.free_all.ensures) ∙ arcs_none c.args.rows.now n
+bare : (c : After-min) (n : ℕ) → arcs_of (c.fill.new.self ++ drop (c.min-count.result) c.args.rows.now) n ≡ []
+bare c n = ap (λ rows. arcs_of rows n) (made c.args.rows.now c.fill.new.self c.min-count.result c.min-count.ensures (c.fill.ensures.after (λ y h. search rules))) ∙ arcs_none c.args.rows.now n
 
 pub invariant_of-result : goal.invariant_of-result
 invariant_of-result c =
@@ -24,7 +24,7 @@ invariant_of-result c =
 pub returns : goal.returns
 returns c =
     let at = (goal.at.returns c).After-min in
-    let freed = made c.args.rows.now c.free_all.new.rows c.min-count.result c.min-count.ensures c.free_all.ensures in
+    let freed = made c.args.rows.now c.fill.new.self c.min-count.result c.min-count.ensures (c.fill.ensures.after (λ y h. search rules)) in
     record {
       nodes = c.min.ensures;
       after = freed;

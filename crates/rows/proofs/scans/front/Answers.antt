@@ -1,6 +1,0 @@
-use Rattle.std.proofs.Common.{arith}
-use Rattle.rows.proofs.Tables.{take_front}
-use Rattle.rows.proofs.scans.front.Goals as goal
-
-pub returns : goal.returns
-returns c = take_front c.args.rows.now _ (omega arith)
