@@ -1,31 +1,23 @@
 -- The first refusal of the rows of a table: one step of the search, and what no refusal says of each row. Assumes nothing.
-use Rattle.std.proofs.Common.{◌≡◌, ℕ, zero, suc, ◌+◌, ◌<◌, ◌≤◌, List, [], ◌∷◌, length, get_or, drop, Some, None, Option, sym, refl, ap, ◌∙◌, add-zero, add-one, arith}
-use Rattle.std.proofs.lemmas.List.{drop_more, drop_all}
+use Rattle.std.proofs.Common.{◌≡◌, ℕ, zero, suc, ◌+◌, ◌<◌, List, [], ◌∷◌, length, get_or, Some, None, Option, sym, refl, ap, ◌∙◌, add-zero, add-one, arith}
+use Rattle.std.proofs.lemmas.Option.{none-some}
 use Rattle.draft.specs.Refusals.{Told, or_else, first_from}
 
 pub none_of_two : (a b : Option Told) → or_else a b ≡ None → (a ≡ None) × (b ≡ None)
 none_of_two None b e = (refl, e)
-none_of_two (Some t) b e = let z : ◌≡◌ {A = ℕ} 0 1 = cc in absurd (omega arith)
+none_of_two (Some t) b e = absurd (none-some t (sym e))
 
-module _ {A : Type 0} (test : ℕ → A → Option Told) (xs : List A) (i : ℕ) where
-  first_step : (d : A) → i < length xs
-      → first_from test i (drop i xs) ≡ or_else (test i (get_or xs i d)) (first_from test (i + 1) (drop (i + 1) xs))
-  first_step d h =
-      ap (first_from test i) (drop_more xs i d h)
-      ∙ ap (λ j. or_else (test i (get_or xs i d)) (first_from test j (drop (i + 1) xs))) (sym (add-one i))
+-- the row x, of the number i, is the first of xs, and passes
+pub first_passed : {A : Type 0} (test : ℕ → A → Option Told) (i r j : ℕ) (x : A) (xs rest : List A) (e : Option Told)
+    → xs ≡ x ∷ rest → r ≡ i → j ≡ r + 1 → None ≡ test r x → first_from test i xs ≡ e → first_from test j rest ≡ e
+first_passed test i r j x xs rest e h s n p q =
+    ap (λ k. first_from test k rest) (n ∙ add-one r) ∙ ap (λ o. or_else o (first_from test (suc r) rest)) p
+    ∙ ap (λ k. first_from test k (x ∷ rest)) s ∙ sym (ap (first_from test i) h) ∙ q
 
-  pub first_passed : (d : A) (e : Option Told) → i < length xs → test i (get_or xs i d) ≡ None
-      → first_from test i (drop i xs) ≡ e → first_from test (i + 1) (drop (i + 1) xs) ≡ e
-  first_passed d e h p q =
-      sym (first_step d h ∙ ap (λ r. or_else r (first_from test (i + 1) (drop (i + 1) xs))) p) ∙ q
-
-  pub first_refused : (d : A) (e : Option Told) (t : Told) → i < length xs → test i (get_or xs i d) ≡ Some t
-      → first_from test i (drop i xs) ≡ e → Some t ≡ e
-  first_refused d e t h p q =
-      sym (first_step d h ∙ ap (λ r. or_else r (first_from test (i + 1) (drop (i + 1) xs))) p) ∙ q
-
-  pub first_ended : (e : Option Told) → length xs ≤ i → first_from test i (drop i xs) ≡ e → None ≡ e
-  first_ended e h q = sym (ap (first_from test i) (drop_all i xs h)) ∙ q
+pub first_ended : {A : Type 0} (test : ℕ → A → Option Told) (i : ℕ) (xs : List A) (e : Option Told)
+    → length xs ≡ 0 → first_from test i xs ≡ e → None ≡ e
+first_ended test i [] e h q = q
+first_ended test i (x ∷ xs) e h q = absurd (omega arith)
 
 -- no refusal among the rows: each row passes
 pub first_none : {A : Type 0} (test : ℕ → A → Option Told) (i : ℕ) (xs : List A) → first_from test i xs ≡ None

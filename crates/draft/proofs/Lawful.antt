@@ -1,6 +1,8 @@
 -- Tables that are not refused are lawful. Assumes nothing.
-use Rattle.std.proofs.Common.{◌≡◌, ℕ, ◌<◌, Bool, true, false, cond, length, get_or, is_some, Some, None, Option, refl, subst, zero-add, arith}
+use Rattle.std.proofs.Common.{◌≡◌, ℕ, ◌<◌, Bool, true, false, cond, length, get_or, is_some, Some, None, Option, refl, sym, subst, zero-add}
 use Rattle.std.proofs.lemmas.Bool.{leb-true, ltb-true}
+use Rattle.std.proofs.lemmas.Option.{none-some}
+use Rattle.shapes.proofs.Decide.{false_is_not}
 use Rattle.draft.specs.Lawful.{Lawful, AreLawful}
 use Rattle.draft.specs.Refusals.{Told, first_from, definition_refusal, shape_refusal, triple_refusal, row_refusal}
 use Rattle.draft.specs.declared.rows.ShapeRow.TheVariants.{Value}
@@ -10,7 +12,7 @@ use Rattle.draft.proofs.First.{none_of_two, first_none}
 
 passed : (b : Bool) (x : Option Told) (t : Told) → cond b x (Some t) ≡ None → (b ≡ true) × (x ≡ None)
 passed true x t e = (refl, e)
-passed false x t e = let z : ◌≡◌ {A = ℕ} 0 1 = cc in absurd (omega arith)
+passed false x t e = absurd (none-some t (sym e))
 
 each_row : {A : Type 0} (test : ℕ → A → Option Told) (xs : _) → first_from test 0 xs ≡ None
     → (r : ℕ) (d : A) → r < length xs → test r (get_or xs r d) ≡ None
@@ -41,7 +43,7 @@ are_lawful t e =
 
 pub none_from_test : (o : Option Told) → is_some o ≡ false → o ≡ None
 none_from_test None e = refl
-none_from_test (Some t) e = let z : ◌≡◌ {A = ℕ} 0 1 = cc in absurd (omega arith)
+none_from_test (Some t) e = false_is_not (sym e)
 
 pub lawful_from_test : (t : _) → is_some (row_refusal t) ≡ false → Lawful t
 lawful_from_test t e = are_lawful t (none_from_test _ e)

@@ -3,7 +3,8 @@
 --     told fault           what a fault stands for
 --     refusal answer       what an answer refuses with, if it does
 --     row_refusal t        the refusal of the tables t, by their lengths and rows alone
-use Rattle.std.specs.Prelude.{ℕ, suc, Bool, true, cond, ◌&&◌, List, [], ◌∷◌, length, Some, None, Ok, Err, Option, Result, nat_le, nat_lt}
+use Rattle.std.specs.Prelude.{◌≡◌, ℕ, suc, Bool, true, cond, ◌&&◌, List, [], ◌∷◌, length, Some, None, Ok, Err, Option, Result, nat_le, nat_lt}
+use Rattle.std.specs.Fn.{Shared, AnyResult}
 use Rattle.refusal.specs.declared.Layer.{Layer}
 use Rattle.refusal.specs.declared.Layer.TheVariants.{Schema}
 use Rattle.draft.specs.Tables.{Tables}
@@ -54,6 +55,10 @@ or_else (Some first) next = Some first
 abbrev pub first_from : {A : Type 0} → (ℕ → A → Option Told) → ℕ → List A → Option Told
 first_from test i [] = None
 first_from test i (x ∷ xs) = or_else (test i x) (first_from test (suc i) xs)
+
+-- each answer of the check is what the test says of the row and its number
+abbrev pub AnswersBy : {F A : Type 0} → Shared F (ℕ × (A × Unit {0})) (Result (Unit {0}) SchemaFault) → F → (ℕ → A → Option Told) → Type 0
+AnswersBy {A = A} g check test = (i : ℕ) (x : A) → AnyResult g check (i, (x, tt)) (λ answer. refusal answer ≡ test i x)
 
 -- a shape row r names smaller shape rows; HOOD names a triple row that is there
 abbrev pub shape_names : (triples : ℕ) → ℕ → ShapeRow → Bool

@@ -3,7 +3,7 @@ use crate::rows::{ShapeRow, TripleRow};
 use crate::set::PropertySet;
 
 // A label's definition is the number of a shape row.
-#[derive(Clone, Copy)]
+#[derive(Clone, Copy, PartialEq, Eq, Debug)]
 pub struct Draft<'a> {
     pub definitions: &'a [u8],
     pub shapes: &'a [ShapeRow],

@@ -1,7 +1,8 @@
 // What accept and strata refuse with.
 use std::fmt;
+use thiserror::Error;
 
-#[derive(Clone, Copy)]
+#[derive(Clone, Copy, PartialEq, Eq, Debug)]
 pub enum Table {
     Labels,
     ShapeRows,
@@ -21,42 +22,20 @@ impl fmt::Display for Table {
 }
 
 // A case names the row at fault, or for a negation the two labels of the reference.
-#[derive(Clone, Copy)]
+#[derive(Clone, Copy, PartialEq, Eq, Debug, Error)]
 pub enum SchemaFault {
+    #[error("there are too many {0}: row {limit} is past the last", limit = .0.limit())]
     TooLong(Table),
+    #[error("label {0} is defined by no shape row")]
     Definition(u8),
+    #[error("shape row {0} names a row that it may not name")]
     ShapeRow(u8),
+    #[error("triple row {0} names a row, a set or a label that it may not name")]
     TripleRow(u8),
+    #[error("triple row {0} has its most below its least")]
     Bounds(u8),
+    #[error("the negated reference from label {0} to label {1} lies on a cycle")]
     Negation(u8, u8),
+    #[error("there are fewer bytes than labels")]
     ShortBuffer,
-}
-
-impl fmt::Display for SchemaFault {
-    fn fmt<W: fmt::Write>(&self, f: &mut fmt::Formatter<W>) -> fmt::Result {
-        match self {
-            SchemaFault::TooLong(table) => {
-                let limit = table.limit();
-                write!(
-                    f,
-                    "there are too many {table}: row {limit} is past the last"
-                )
-            }
-            SchemaFault::Definition(label) => write!(f, "label {label} is defined by no shape row"),
-            SchemaFault::ShapeRow(row) => write!(
-                f,
-                "shape row {row} names a row that it may not name"
-            ),
-            SchemaFault::TripleRow(row) => write!(
-                f,
-                "triple row {row} names a row, a set or a label that it may not name"
-            ),
-            SchemaFault::Bounds(row) => write!(f, "triple row {row} has its most below its least"),
-            SchemaFault::Negation(from, to) => write!(
-                f,
-                "the negated reference from label {from} to label {to} lies on a cycle"
-            ),
-            SchemaFault::ShortBuffer => write!(f, "there are fewer bytes than labels"),
-        }
-    }
 }

@@ -2,7 +2,7 @@
 ghost use Rattle.std.specs.Prelude.{◌≡◌};
 ghost use Rattle.draft.specs.Sets.{in_set};
 
-#[derive(Clone, Copy)]
+#[derive(Clone, Copy, PartialEq, Eq, Debug, Default)]
 pub struct PropertySet {
     words: [u64; 4],
 }
@@ -20,7 +20,7 @@ impl PropertySet {
     pub fn contains(&self, property: u8) -> bool
         ensures { result ≡ in_set self.now property }
     {
-        let word = self.words[(property / 64) as usize];
+        let word = self.words[usize::from(property / 64)];
         (word >> (property % 64)) & 1 == 1
     }
 }

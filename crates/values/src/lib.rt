@@ -4,7 +4,6 @@
 ghost use Rattle.std.specs.Prelude.{◌≡◌, ℕ, Bool};
 
 mod sheet;
-mod table;
 mod term;
 
 pub use sheet::AnswerSheet;

@@ -3,10 +3,9 @@ ghost use Rattle.std.specs.Prelude.{◌≡◌};
 ghost use Rattle.values.specs.Sheet.{literal_byte, passes_byte};
 
 use crate::ValueTest;
-use crate::table::entry;
 
 // The answers stand by rows: all tests of node 0, then all tests of node 1, and so on.
-#[derive(Clone, Copy)]
+#[derive(Clone, Copy, PartialEq, Eq, Debug)]
 pub struct AnswerSheet<'a> {
     literals: &'a [u8],
     answers: &'a [u8],
@@ -31,11 +30,11 @@ impl<'a> ValueTest for AnswerSheet<'a> {
     ghost passes = { λ sheet node test. passes_byte sheet.answers.now sheet.tests node test };
 
     fn literal(&self, node: u16) -> bool {
-        matches!(entry(self.literals, usize::from(node)), Some(1))
+        self.literals.get(usize::from(node)) == Some(&1)
     }
 
     fn holds(&self, node: u16, test: u16) -> bool {
         let at = usize::from(node) * usize::from(self.tests) + usize::from(test);
-        test < self.tests && matches!(entry(self.answers, at), Some(1))
+        test < self.tests && self.answers.get(at) == Some(&1)
     }
 }

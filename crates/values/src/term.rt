@@ -3,7 +3,6 @@ ghost use Rattle.std.specs.Prelude.{◌≡◌};
 ghost use Rattle.values.specs.Terms.{literal_kind, meets, literal_term, passes_term};
 
 use crate::ValueTest;
-use crate::table::entry;
 
 #[derive(Clone, Copy, PartialEq, Eq, Debug)]
 pub struct Term {
@@ -29,7 +28,7 @@ pub enum Test {
     Node(u16, u16),
 }
 
-#[derive(Clone, Copy)]
+#[derive(Clone, Copy, PartialEq, Eq, Debug)]
 pub struct TermTable<'a> {
     terms: &'a [Term],
     tests: &'a [Test],
@@ -53,10 +52,10 @@ impl Test {
             Test::Literal => kind.is_literal(),
             Test::Text => matches!(kind, TermKind::Text),
             Test::Whole(lo, hi) => match kind {
-                TermKind::Whole(value) => lo <= value && value <= hi,
+                TermKind::Whole(value) => (lo..=hi).contains(&value),
                 _ => false,
             },
-            Test::Node(first, last) => first <= node && node <= last,
+            Test::Node(first, last) => (first..=last).contains(&node),
         }
     }
 }
@@ -75,15 +74,14 @@ impl<'a> ValueTest for TermTable<'a> {
     ghost passes = { λ table node test. passes_term table.terms.now table.tests.now node test };
 
     fn literal(&self, node: u16) -> bool {
-        match entry(self.terms, usize::from(node)) {
-            Some(term) => term.kind.is_literal(),
-            None => false,
-        }
+        self.terms
+            .get(usize::from(node))
+            .is_some_and(|term| term.kind.is_literal())
     }
 
     fn holds(&self, node: u16, test: u16) -> bool {
-        let term = entry(self.terms, usize::from(node));
-        let test = entry(self.tests, usize::from(test));
+        let term = self.terms.get(usize::from(node));
+        let test = self.tests.get(usize::from(test));
         match (term, test) {
             (Some(term), Some(test)) => test.met_by(node, term.kind),
             _ => false,
