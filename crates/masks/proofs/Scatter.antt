@@ -1,11 +1,14 @@
 -- EACH by scatter: the loops over the masks of the one and the disjoint masks of the other.
-use Rattle.std.proofs.Common.{◌≡◌, ℕ, ◌+◌, ◌-◌, ◌^◌, ◌<◌, Bool, true, false, ◌≢◌, ◌↔◌, List, length, get_or, set, subst, inl, inr, arith, get_or-set_other, get_or-set_same}
+use Rattle.std.proofs.Common.{◌≡◌, ℕ, ◌+◌, ◌-◌, ◌^◌, ◌<◌, Bool, true, false, ◌≢◌, ◌↔◌, List, length, get_or, set, Some, subst, inl, inr, arith, get_or-set_other, get_or-set_same}
 use native.Mathlib.Decide.{dec_le}
 use lib.Bits.{bit_and, and_le_l}
 use Rattle.std.proofs.lemmas.Bool.{cases_eq}
 use Rattle.masks.specs.Masks.{On, Apart, Splits}
 use Rattle.masks.specs.Steps.{Spread, Joined}
 use Rattle.masks.proofs.Apart.{apart_below, apart_rest, Part, part_next}
+use Rattle.masks.specs.Submasks.{after, Gives}
+use Rattle.masks.specs.declared.submasks.Submasks.{Submasks}
+use Rattle.masks.proofs.Descending.{Left, part_here, down}
 use Rattle.masks.proofs.Flags.{not_on}
 
 module _ (n : ℕ) (old b : List Bool) (s u : ℕ) where
@@ -41,7 +44,7 @@ module _ (n : ℕ) (old b : List Bool) (s u : ℕ) where
             ))
       ]
 
-  pub spread_next : (d : ℕ) (c : List Bool) → u < 2 ^ n → Part u d → (d ≡ 0 → ⊥) → Spread n old b s u d c → Spread n old b s u (bit_and (d - 1) u + 1) c
+  spread_next : (d : ℕ) (c : List Bool) → u < 2 ^ n → Part u d → (d ≡ 0 → ⊥) → Spread n old b s u d c → Spread n old b s u (bit_and (d - 1) u + 1) c
   spread_next d c v p z f m h = (
     λ o. elim ((f m h).0 o) [ inl x ↦ inl x | inr y ↦ inr (y.0, y.1, y.2, y.3, omega (arith, y.4, z, and_le_l (d - 1) u), y.5, y.6) ],
     λ x. (f m h).1 (elim x [
@@ -58,6 +61,11 @@ module _ (n : ℕ) (old b : List Bool) (s u : ℕ) where
       )
     ]),
   )
+
+  -- one step of the iterator over the parts of u
+  pub spread_down : (d : ℕ) (it to : Submasks) → Left u it → Gives it (Some d) to → (c : List Bool) → u < 2 ^ n → Spread n old b s u d c → Spread n old b s u (after to.next) c
+  spread_down d it to left g c v f =
+      down u d it to left g (λ lo. Spread n old b s u lo c) f (λ z. spread_next d c v (part_here u d it to left g) z f)
 
 module _ (n : ℕ) (a b : List Bool) where
   pub join_none : (c : List Bool) → ((m : ℕ) → m < 2 ^ n → get_or c m false ≡ false) → Joined n a b 0 c
