@@ -1,13 +1,10 @@
 -- Single bits of numbers.
-use Rattle.std.proofs.Common.{◌≡◌, ℕ, zero, suc, true, ◌≤◌, eqb, refl, ◌+◌, ◌-◌, ◌*◌, ◌/◌, ◌%◌, ◌^◌, ◌<◌, max, ◌⊎◌, ◌↔◌, sym, ap, ◌∙◌, inl, inr, arith, shr-shr}
+use Rattle.std.proofs.Common.{◌≡◌, ℕ, suc, ◌+◌, ◌-◌, ◌*◌, ◌/◌, ◌%◌, ◌^◌, ◌<◌, max, ◌⊎◌, ◌↔◌, sym, ap, ◌∙◌, inl, inr, arith, shr-shr}
 use lib.Bits.{bit_or, or_step, or_shr}
 use lib.Pow.{shl-shr, field, mod-mod-pow}
 use Rattle.std.proofs.lemmas.Nat.{shr_high}
-use Rattle.std.proofs.lemmas.Bool.{cases_eq, eqb-true, eq-eqb}
-use Rattle.std.proofs.lemmas.Bool.Decides.{Decides-or}
-use Rattle.std.specs.List.{list_any, range_with_len}
+use Rattle.std.proofs.lemmas.Bool.{cases_eq}
 use Rattle.masks.specs.Masks.{Bit}
-use Rattle.masks.proofs.Flags.{either, not_on}
 
 max_one : (x y : ℕ) → x < 2 → y < 2 → max x y ≡ 1 → (x ≡ 1) ⊎ (y ≡ 1)
 max_one x y h g e = elim (cases_eq x 1) [ inl z ↦ inl z | inr z ↦ inr (omega arith) ]
@@ -42,15 +39,3 @@ pub no_bit : (q x : ℕ) → x < 2 ^ q → x / 2 ^ q % 2 ≡ 0
 no_bit q x below =
     let e : x ≡ 0 * 2 ^ q + x = omega arith in
     ap (λ w. w / 2 ^ q % 2) e ∙ ap (λ w. w % 2) (shr_high 0 q x below)
-
--- one of n bits from lo on is 1
-pub any_bit_is : (x lo n : ℕ) → (list_any (λ j. eqb (x / 2 ^ j % 2) 1) (range_with_len lo n) ≡ true) ↔ ((j : ℕ) × (lo ≤ j) × (j < lo + n) × Bit x j)
-any_bit_is x lo zero = (λ e. not_on refl e, λ y. absurd (omega (arith, y.1, y.2)))
-any_bit_is x lo (suc n) =
-    either (Decides-or _ _ (eqb-true (x / 2 ^ lo % 2) 1, eq-eqb (x / 2 ^ lo % 2) 1) (any_bit_is x (lo + 1) n)) (
-      λ s. elim s [ inl b ↦ (lo, omega arith, omega arith, b) | inr y ↦ (y.0, omega (arith, y.1), omega (arith, y.2), y.3) ],
-      λ y. elim (cases_eq y.0 lo) [
-        | inl e ↦ inl (ap (λ j. x / 2 ^ j % 2) (sym e) ∙ y.3)
-        | inr d ↦ inr (y.0, omega (arith, d, y.1), omega (arith, y.2), y.3)
-      ],
-    )

@@ -12,9 +12,7 @@ fn spread(fan: Fan, b: &[bool; MASKS], s: usize, c: &mut [bool; MASKS])
     ensures { Spread fan.value c.old b.now s (2 ^ fan.value - 1 - s) 0 c.new }
 {
     for d in Submasks::of(fan.masks() - 1 - s) {
-        if b[d] {
-            c[s + d] = true;
-        }
+        c[s + d] |= b[d];
     }
 }
 

@@ -48,7 +48,13 @@ fn any_bit(x: u16, lo: u8, hi: u8) -> bool
     requires { hi < 16 }
     ensures { (result ≡ true) ↔ ((j : ℕ) × (lo ≤ j) × (j ≤ hi) × Bit x j) }
 {
-    (lo..hi + 1).any(|j| (x >> j) % 2 == 1)
+    // a loop: with any(..) on the range TIMES took 1.14 times as long at 4 arcs, and 1.11 at 6
+    for j in lo..hi + 1 {
+        if (x >> j) % 2 == 1 {
+            return true;
+        }
+    }
+    false
 }
 
 // The largest count of at most 12 parts that the most allows.

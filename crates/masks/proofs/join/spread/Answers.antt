@@ -2,8 +2,7 @@ use Rattle.std.proofs.Common.{◌≡◌, ◌+◌, ◌-◌, ◌^◌, Some, refl, 
 use Rattle.masks.specs.Steps.{Spread}
 use Rattle.masks.specs.Submasks.{after}
 use Rattle.masks.specs.declared.submasks.Submasks.{Submasks}
-use Rattle.masks.proofs.Flags.{not_on}
-use Rattle.masks.proofs.Scatter.{spread_none, spread_skip, spread_take, spread_down}
+use Rattle.masks.proofs.Scatter.{spread_none, spread_mark, spread_down}
 use Rattle.masks.proofs.Descending.{left_whole, part_here, after_here, left_more, none_left}
 use Rattle.masks.proofs.join.spread.Goals as goal
 
@@ -14,8 +13,8 @@ loop-d-init c =
     let first = ap (λ (s : Submasks). s.next) same ∙ c.of-d-items.ensures.first ∙ sym (ap (λ k. Some k) (ap (λ (s : Submasks). s.whole) same ∙ c.of-d-items.ensures.whole)) in
     (tt, tt, left_whole it.whole it refl first, λ n e. subst (λ o. Spread n c.args.c.now c.args.b.now c.args.s it.whole (after o) c.args.c.now) (sym first) (spread_none n c.args.c.now c.args.b.now c.args.s it.whole))
 
-pub loop-d-preserved-then-b-d : goal.loop-d-preserved-then-b-d
-loop-d-preserved-then-b-d c =
+pub loop-d-preserved : goal.loop-d-preserved
+loop-d-preserved c =
     let old = c.args.c.now in
     let b = c.args.b.now in
     let s = c.args.s in
@@ -31,28 +30,7 @@ loop-d-preserved-then-b-d c =
       tt,
       left_more u d it to left g,
       λ n e. (let all = subst (λ lo. Spread n old b s u lo c.loop-d.c) (after_here u d it to left g) (c.loop-d.invariant.3 n e) in
-          let here = spread_take n old b s u d c.loop-d.c (omega (arith, e)) p (omega (arith, p.0)) c.if-b-d.true all in
-          spread_down n old b s u d it to left g _ (omega (arith, e)) here),
-    )
-
-pub loop-d-preserved : goal.loop-d-preserved
-loop-d-preserved c =
-    let old = c.args.c.now in
-    let b = c.args.b.now in
-    let s = c.args.s in
-    let u = c.into_iter-d-iterator.result.whole in
-    let d = c.in-Some.d in
-    let it = c.loop-d.d-iterator in
-    let to = c.next.new.self in
-    let left = c.loop-d.invariant.2 in
-    let g = c.in-Some.ensures.steps in
-    let p = part_here u d it to left g in (
-      tt,
-      tt,
-      left_more u d it to left g,
-      λ n e. (let all = subst (λ lo. Spread n old b s u lo c.loop-d.c) (after_here u d it to left g) (c.loop-d.invariant.3 n e) in
-          let here = spread_skip n old b s u d c.loop-d.c (not_on c.if-b-d.false) all in
-          spread_down n old b s u d it to left g c.loop-d.c (omega (arith, e)) here),
+          spread_down n old b s u d it to left g _ (omega (arith, e)) (spread_mark n old b s u d c.loop-d.c (omega (arith, e)) p (omega (arith, p.0, small)) all)),
     )
 
 pub returns : goal.returns
