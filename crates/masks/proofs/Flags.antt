@@ -1,5 +1,7 @@
 -- Tables of flags that a loop fills.
-use Rattle.std.proofs.Common.{◌≡◌, ℕ, zero, suc, ◌+◌, ◌-◌, ◌^◌, ◌<◌, Bool, true, false, ◌≢◌, ◌↔◌, List, length, get_or, set, replicate, sym, refl, ap, ◌∙◌, subst, inl, inr, arith, get_or-set_other, get_or-set_same}
+use Rattle.std.proofs.Common.{◌≡◌, ℕ, zero, suc, ◌+◌, ◌-◌, ◌^◌, ◌<◌, Bool, true, false, ◌≢◌, ◌↔◌, List, ◌++◌, length, get_or, set, replicate, sym, refl, ap, ◌∙◌, subst, inl, inr, arith, get_or-set_other, get_or-set_same}
+use Rattle.std.proofs.Math.ListN.{get_or-append}
+use lib.ListN.{get_or-replicate, length-replicate}
 use Rattle.std.proofs.lemmas.Bool.{cases_eq}
 use Rattle.masks.specs.Masks.{On, Among}
 
@@ -8,6 +10,12 @@ either f g = (λ a. g.0 (f.0 a), λ c. f.1 (g.1 c))
 
 pub not_on : {A : Type 0} {b : Bool} → b ≡ false → b ≡ true → A
 not_on e f = let z : ◌≡◌ {A = ℕ} 0 1 = cc in absurd (omega arith)
+
+-- an element of a front part that was filled
+pub filled : {A : Type 0} (v : A) (n : ℕ) (xs rest : List A) (m : ℕ) → xs ≡ replicate n v → m < n → get_or (xs ++ rest) m v ≡ v
+filled v n xs rest m e h =
+    let l : m < length xs = omega (arith, ap length e ∙ length-replicate n v) in
+    get_or-append xs rest v m l ∙ ap (λ l. get_or l m v) e ∙ get_or-replicate n m v v h
 
 -- one more flag
 pub flag_more : (P : ℕ → Type 0) (c : List Bool) (m : ℕ) (v : Bool) → m < length c → ((k : ℕ) → k < m → On c k ↔ P k) → (v ≡ true) ↔ P m

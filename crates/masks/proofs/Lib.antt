@@ -1,4 +1,5 @@
 pub mod Apart
+pub mod Descending
 pub mod Flags
 pub mod Bits
 pub mod Scatter

@@ -1,5 +1,5 @@
 -- TIMES by sets of part counts: the first part of a mask has its top place.
-use Rattle.std.proofs.Common.{◌≡◌, ℕ, zero, suc, ◌+◌, ◌-◌, ◌*◌, ◌%◌, ◌^◌, ◌<◌, ◌≤◌, Bool, ◌≢◌, ◌⊎◌, ◌↔◌, List, length, get_or, set, Option, sym, refl, ap, ◌∙◌, subst, inl, inr, pow-suc, arith, get_or-set_other, get_or-set_same, pow_pos, pow_mono}
+use Rattle.std.proofs.Common.{◌≡◌, ℕ, zero, suc, ◌+◌, ◌-◌, ◌*◌, ◌%◌, ◌^◌, ◌<◌, ◌≤◌, Bool, ◌≢◌, ◌⊎◌, ◌↔◌, List, length, get_or, set, Some, Option, sym, refl, ap, ◌∙◌, subst, inl, inr, pow-suc, arith, get_or-set_other, get_or-set_same, pow_pos, pow_mono}
 use native.Mathlib.Decide.{dec_le}
 use lib.Bits.{bit_and, bit_or, and_le_l}
 use lib.Pow.{shr_le}
@@ -8,6 +8,9 @@ use Rattle.shapes.specs.Meaning.{AtMost}
 use Rattle.masks.specs.Masks.{On, Bit, Apart, Chain}
 use Rattle.masks.specs.Steps.{Gain, More, Below, Begun, Counted}
 use Rattle.masks.proofs.Apart.{apart_below, apart_rest, Part, part_next}
+use Rattle.masks.specs.Submasks.{after, Gives}
+use Rattle.masks.specs.declared.submasks.Submasks.{Submasks}
+use Rattle.masks.proofs.Descending.{Left, part_here, down}
 use Rattle.masks.proofs.Flags.{either}
 use Rattle.masks.proofs.Bits.{or_bit, shl_bit, shl_even, no_bit}
 
@@ -73,7 +76,7 @@ module _ (old : List ℕ) (part rest : ℕ) where
         λ s. (or_bit x y j).1 (elim s [ inl o ↦ inl ((g n h (part + d) j l).1 (inl o)) | inr s ↦ inr ((gained j l).1 s) ]),
       )
 
-  pub more_next : (d : ℕ) (c : List ℕ) → Part rest d → (d ≡ 0 → ⊥) → More old part rest d c → More old part rest (bit_and (d - 1) rest + 1) c
+  more_next : (d : ℕ) (c : List ℕ) → Part rest d → (d ≡ 0 → ⊥) → More old part rest d c → More old part rest (bit_and (d - 1) rest + 1) c
   more_next d c p z g n h m j l = (
     λ b. elim ((g n h m j l).0 b) [ inl o ↦ inl o | inr s ↦ inr (down j s) ],
     λ s. (g n h m j l).1 (elim s [ inl o ↦ inl o | inr s ↦ inr (up j s) ]),
@@ -95,6 +98,11 @@ module _ (old : List ℕ) (part rest : ℕ) where
         s.5,
         s.6,
       )
+
+  -- one step of the iterator over the parts of the rest
+  pub more_down : (d : ℕ) (it to : Submasks) → Left rest it → Gives it (Some d) to → (c : List ℕ) → More old part rest d c → More old part rest (after to.next) c
+  more_down d it to left g c f =
+      down rest d it to left g (λ lo. More old part rest lo c) f (λ z. more_next d c (part_here rest d it to left g) z f)
 
 -- the top place of a mask
 same_top : (i j m : ℕ) → 2 ^ i ≤ m → m < 2 ^ suc i → 2 ^ j ≤ m → m < 2 ^ suc j → i ≡ j

@@ -1,2 +1,3 @@
 pub mod Masks
 pub mod Steps
+pub mod Submasks

@@ -4,23 +4,15 @@ ghost use Rattle.masks.specs.Masks.{On, Splits};
 ghost use Rattle.masks.specs.Steps.{Spread};
 
 use crate::fan::{Fan, MASKS};
-use crate::plain::clear;
+use crate::submasks::Submasks;
 
 // Marks s + d for each mask d of b that is disjoint from s.
 fn spread(fan: Fan, b: &[bool; MASKS], s: usize, c: &mut [bool; MASKS])
     requires { s < 2 ^ fan.value }
     ensures { Spread fan.value c.old b.now s (2 ^ fan.value - 1 - s) 0 c.new }
 {
-    let rest = fan.masks() - 1 - s;
-    let mut d = rest;
-    loop {
-        if b[d] {
-            c[s + d] = true;
-        }
-        if d == 0 {
-            return;
-        }
-        d = (d - 1) & rest;
+    for d in Submasks::of(fan.masks() - 1 - s) {
+        c[s + d] |= b[d];
     }
 }
 
@@ -28,9 +20,9 @@ fn spread(fan: Fan, b: &[bool; MASKS], s: usize, c: &mut [bool; MASKS])
 pub fn each(fan: Fan, a: &[bool; MASKS], b: &[bool; MASKS], c: &mut [bool; MASKS])
     ensures { (m : ℕ) → m < 2 ^ fan.value → On c.new m ↔ Splits fan.value a.now b.now m }
 {
-    clear(fan, c);
-    for s in 0..fan.masks() {
-        if a[s] {
+    c[..fan.masks()].fill(false);
+    for (s, is_on) in a[..fan.masks()].iter().enumerate() {
+        if *is_on {
             spread(fan, b, s, c);
         }
     }

@@ -5,6 +5,7 @@ mod fan;
 mod join;
 mod parts;
 mod plain;
+mod submasks;
 
 pub use fan::{Fan, MASKS};
 pub use join::each;

@@ -2,17 +2,10 @@
 ghost use Rattle.std.specs.Prelude.{◌≡◌, ℕ, ◌+◌, ◌^◌, ◌<◌, ◌≤◌, true, ◌⊎◌, ◌↔◌, slice_index};
 ghost use Rattle.shapes.specs.Meaning.{AtMost};
 ghost use Rattle.masks.specs.Masks.{On, Bit, Chain};
-ghost use Rattle.masks.specs.Steps.{More, Counted};
+ghost use Rattle.masks.specs.Steps.{More, Begun, Counted};
 
 use crate::fan::{Fan, MASKS};
-
-fn clear_counts(fan: Fan, counts: &mut [u16; MASKS])
-    ensures { (m : ℕ) → m < 2 ^ fan.value → slice_index counts.new m ≡ 0 }
-{
-    for m in 0..fan.masks() {
-        counts[m] = 0;
-    }
-}
+use crate::submasks::Submasks;
 
 // Counts one part more at part + d than at d, for each part d of the rest.
 fn add_part(counts: &mut [u16; MASKS], part: usize, rest: usize)
@@ -20,13 +13,22 @@ fn add_part(counts: &mut [u16; MASKS], part: usize, rest: usize)
     requires room { part + rest < 4096 }
     ensures { More counts.old part rest 0 counts.new }
 {
-    let mut d = rest;
-    loop {
+    for d in Submasks::of(rest) {
         counts[part + d] |= counts[d] << 1;
-        if d == 0 {
-            return;
+    }
+}
+
+// Counts what begins with a part of the top place 2^place.
+fn add_parts(fan: Fan, a: &[bool; MASKS], place: usize, counts: &mut [u16; MASKS])
+    requires place { place < fan.value }
+    requires begun { Begun a.now counts.old fan.value (2 ^ place) }
+    ensures { Begun a.now counts.new fan.value (2 ^ (place + 1)) }
+{
+    let top = Fan::new(place).masks();
+    for (low, is_on) in a[top..2 * top].iter().enumerate() {
+        if *is_on {
+            add_part(counts, top + low, top - 1 - low);
         }
-        d = (d - 1) & rest;
     }
 }
 
@@ -34,16 +36,10 @@ fn add_part(counts: &mut [u16; MASKS], part: usize, rest: usize)
 fn count_parts(fan: Fan, a: &[bool; MASKS], counts: &mut [u16; MASKS])
     ensures { Counted a.now counts.new (2 ^ fan.value) }
 {
-    clear_counts(fan, counts);
+    counts[..fan.masks()].fill(0);
     counts[0] = 1;
-    let mut top = 1;
-    for part in 1..fan.masks() {
-        if part == 2 * top {
-            top = part;
-        }
-        if a[part] {
-            add_part(counts, part, 2 * top - 1 - part);
-        }
+    for place in 0..fan.value {
+        add_parts(fan, a, place, counts);
     }
 }
 
@@ -52,6 +48,7 @@ fn any_bit(x: u16, lo: u8, hi: u8) -> bool
     requires { hi < 16 }
     ensures { (result ≡ true) ↔ ((j : ℕ) × (lo ≤ j) × (j ≤ hi) × Bit x j) }
 {
+    // a loop: with any(..) on the range TIMES took 1.14 times as long at 4 arcs, and 1.11 at 6
     for j in lo..hi + 1 {
         if (x >> j) % 2 == 1 {
             return true;
@@ -65,10 +62,7 @@ fn cap(most: Option<u8>) -> u8
     ensures small { result < 16 }
     ensures same { (j : ℕ) → j ≤ 12 → (j ≤ result) ↔ AtMost j most }
 {
-    match most {
-        None => 12,
-        Some(bound) => bound.min(12),
-    }
+    most.unwrap_or(12).min(12)
 }
 
 // The masks that split into parts of a, none empty, at most `most` of them, and at least `least` unless a has the empty mask.
@@ -85,7 +79,9 @@ pub fn times(
     count_parts(fan, a, counts);
     let lo = if a[0] { 0 } else { least };
     let hi = cap(most);
-    for m in 0..fan.masks() {
-        c[m] = any_bit(counts[m], lo, hi);
+    // by the place: after a zip of iter_mut a proof knows nothing of what was written
+    let masks = &mut c[..fan.masks()];
+    for (m, is_on) in masks.iter_mut().enumerate() {
+        *is_on = any_bit(counts[m], lo, hi);
     }
 }

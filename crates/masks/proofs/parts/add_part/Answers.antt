@@ -1,35 +1,48 @@
-use Rattle.std.proofs.Common.{◌+◌, ◌-◌, ◌*◌, ◌%◌, ◌^◌, get_or, set, refl, subst, arith}
-use lib.Bits.{bit_or, and_le_l}
+use Rattle.std.proofs.Common.{refl, ap, ◌∙◌, sym, subst, arith}
 use Rattle.masks.specs.Steps.{More}
-use Rattle.masks.proofs.Apart.{part_whole, part_more}
-use Rattle.masks.proofs.Tally.{more_none, more_take, more_next, lower_set}
+use Rattle.masks.specs.Submasks.{after}
+use Rattle.masks.specs.declared.submasks.Submasks.{Submasks}
+use Rattle.masks.proofs.Tally.{more_none, more_take, more_down, lower_set}
+use Rattle.masks.proofs.Descending.{left_whole, part_here, after_here, left_more, none_left}
 use Rattle.masks.proofs.parts.add_part.Goals as goal
 
 pub loop-d-init : goal.loop-d-init
-loop-d-init c = (part_whole c.args.rest, λ e h. refl, more_none c.args.counts.now c.args.part c.args.rest)
-
-pub loop-d-smaller : goal.loop-d-smaller
-loop-d-smaller c = omega (arith, and_le_l (c.loop-d.d - 1) c.args.rest)
+loop-d-init c =
+    let old = c.args.counts.now in
+    let p = c.args.part in
+    let r = c.args.rest in
+    let it = c.into_iter-d-iterator.result in
+    let same = c.into_iter-d-iterator.ensures.into_iter_gives in
+    let first = ap (λ (s : Submasks). s.next) same ∙ c.of-d-items.ensures.first in (
+      tt,
+      tt,
+      left_whole r it (ap (λ (s : Submasks). s.whole) same ∙ c.of-d-items.ensures.whole) first,
+      λ e h. refl,
+      subst (λ o. More old p r (after o) old) (sym first) (more_none old p r),
+    )
 
 pub loop-d-preserved : goal.loop-d-preserved
 loop-d-preserved c =
     let old = c.args.counts.now in
     let p = c.args.part in
     let r = c.args.rest in
-    let d = c.loop-d.d in
-    let inv = c.loop-d.invariant in (
-      part_more r d inv.0 c.if-d-eq0.false,
-      lower_set old p r d _ c.loop-d.counts inv.1,
-      more_next old p r d _ inv.0 c.if-d-eq0.false (more_take old p r d c.loop-d.counts inv.0 c.requires.lower (omega (arith, inv.0.0)) inv.1 inv.2),
+    let d = c.in-Some.d in
+    let it = c.loop-d.d-iterator in
+    let to = c.next.new.self in
+    let inv = c.loop-d.invariant in
+    let left = inv.2 in
+    let g = c.in-Some.ensures.steps in
+    let here = part_here r d it to left g in
+    let all = subst (λ lo. More old p r lo c.loop-d.counts) (after_here r d it to left g) inv.4 in
+    let more = more_take old p r d c.loop-d.counts here c.requires.lower (omega (arith, here.0, c.requires.room)) inv.3 all in (
+      tt,
+      tt,
+      left_more r d it to left g,
+      lower_set old p r d _ c.loop-d.counts inv.3,
+      more_down old p r d it to left g _ more,
     )
 
-pub returns-then-d-eq0 : goal.returns-then-d-eq0
-returns-then-d-eq0 c =
-    let old = c.args.counts.now in
-    let p = c.args.part in
-    let r = c.args.rest in
-    let d = c.loop-d.d in
-    let inv = c.loop-d.invariant in
-    let now = c.loop-d.counts in
-    subst (λ n. More old p r n (set now (p + d) (bit_or (get_or now (p + d) 0) (get_or now d 0 * 2 ^ 1 % 2 ^ 16)))) c.if-d-eq0.true
-    (more_take old p r d now inv.0 c.requires.lower (omega (arith, inv.0.0)) inv.1 inv.2)
+pub returns : goal.returns
+returns c =
+    subst (λ lo. More c.args.counts.now c.args.part c.args.rest lo c.loop-d.counts)
+    (none_left c.loop-d.d-iterator c.next.new.self c.in-None.ensures.steps) c.loop-d.invariant.4

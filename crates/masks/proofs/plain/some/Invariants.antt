@@ -3,4 +3,4 @@ use Rattle.masks.specs.Masks.{On}
 use Rattle.masks.proofs.plain.some.Given as goal
 
 abbrev pub invariant-loop-m : goal.invariant-loop-m
-invariant-loop-m l = (k : ℕ) → k < l.m → On l.c k ↔ (On l.a k ⊎ On l.b k)
+invariant-loop-m l = (k : ℕ) → k < l.m → On l.masks k ↔ (On l.a k ⊎ On l.b k)
