@@ -1,0 +1,3 @@
+pub mod Members
+pub mod Mentions
+pub mod Rows
