@@ -1,2 +1,3 @@
-pub mod Chaining
-pub mod Marking
+pub mod Arcs
+pub mod Nodes
+pub mod Visiting

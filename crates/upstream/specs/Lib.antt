@@ -1,2 +1,3 @@
-pub mod Chains
+pub mod Arcs
+pub mod Nodes
 pub mod Search

@@ -2,6 +2,7 @@
 #![tactic(auto)]
 
 mod backward;
+mod node_set;
 mod search;
 
 pub use search::upstream;

@@ -1,34 +1,26 @@
-use Rattle.std.proofs.Common.{◌≡◌, ◌<◌, arith}
-use Rattle.upstream.specs.Chains.{OnChainOf}
-use Rattle.upstream.proofs.Chaining.{sound_none, chained_none, node_more, node_all}
+use Rattle.std.proofs.Common.{◌≡◌, sym, subst, ⊎_elim, arith}
+use Rattle.std.proofs.lemmas.Bool.{cases_eq}
+use Rattle.upstream.specs.Arcs.{Leads, Leading}
+use Rattle.upstream.proofs.Arcs.{leading_none, leads_below}
 use Rattle.upstream.proofs.backward.Backward.of.Goals as goal
 
 pub loop-node-init : goal.loop-node-init
-loop-node-init g c = (
-  sound_none 256 3072 3072,
-  omega arith,
-  λ o n. (λ h. absurd (chained_none 256 _ _ o n h), λ h. let z : n < 0 = h.0 in absurd (omega arith)),
-)
+loop-node-init g c = record { only = λ n o h. absurd (leading_none n o h); made = λ n o h. absurd (omega arith) }
 
 pub loop-node-preserved : goal.loop-node-preserved
 loop-node-preserved g c =
-    let b = c.loop-node.backward in
-    let d = c.add_arcs.new.self in
-    let inv = c.loop-node.invariant in (
-      c.add_arcs.ensures.sound,
-      (let e = c.add_arcs.ensures.count in omega arith),
-      node_more (g.S.Store.arcs c.args.store.now) c.loop-node.node (OnChainOf b.first b.next b.source) (OnChainOf d.first d.next d.source)
-          inv.2 c.add_arcs.ensures.change,
-    )
+    let arcs = g.S.Store.arcs c.args.store.now in
+    let node = c.loop-node.node in
+    let inv = c.loop-node.invariant in
+    let step = c.add.ensures in
+    record {
+      only = λ n o h. ⊎_elim (inv.only n o) (λ (x : (n ≡ node) × Leads arcs n o). x.1) (step.more n o h);
+      made = λ n o h l. ⊎_elim
+          (λ (e : n ≡ node). subst (λ k. Leading c.add.new.self k o) (sym e) (step.made o (subst (λ k. Leads arcs k o) e l)))
+          (λ (e : n ≡ node → ⊥). step.kept n o (inv.made n o (omega arith) l)) (cases_eq n node);
+    }
 
 pub returns : goal.returns
-returns g c =
-    let law = c.lawful.ensures in
-    let b = c.loop-node.backward in
+returns g c n o =
     let inv = c.loop-node.invariant in
-    let last : g.S.Store.nodes c.args.store.now ≡ c.loop-node.node = omega arith in
-    record {
-      sound = inv.0;
-      value = node_all (g.S.Store.arcs c.args.store.now) c.loop-node.node (OnChainOf b.first b.next b.source) (OnChainOf b.first b.next b.source)
-          inv.2 (λ n h. law.past n (omega (arith, last)));
-    }
+    (inv.only n o, λ l. let w = leads_below (g.S.Store.arcs c.args.store.now) (g.S.Store.nodes c.args.store.now) c.lawful.ensures.past n o l in inv.made n o (omega arith) l)
