@@ -1,4 +1,4 @@
 pub mod Chains
 pub mod Edits
-pub mod Cells
+pub mod Placed
 pub mod Upkeep

@@ -2,6 +2,7 @@
 #![tactic(auto)]
 
 mod calls;
+mod cells;
 mod memory;
 
 pub use memory::ChainStore;

@@ -11,5 +11,5 @@ returns c =
       apart = m.apart;
       within = m.within;
       past = λ n h. rw (m.past n h);
-      room = omega (arith, m.counted, m.room);
+      room = omega (arith, m.counted);
     }

@@ -1,31 +1,51 @@
-use Rattle.std.proofs.Common.{◌≡◌, ℕ, ◌-◌, true, false, get_or, refl, ◌∙◌, rules}
+use Rattle.std.proofs.Common.{◌≡◌, ℕ, ◌-◌, ◌<◌, true, false, sym, refl, ap, ◌∙◌, arith}
+use native.Mathlib.Nat.{sub-zero}
 use Rattle.std.proofs.lemmas.Bool.{and_left, and_right, ne_eqb}
-use Rattle.triple.specs.Arcs.{same}
-use Rattle.chain.specs.Links.{on_chain, on}
-use Rattle.chain.proofs.Chains.{on_first, on_rest, has_first}
+use Rattle.triple.specs.Arcs.{has, same}
+use Rattle.chain.specs.declared.cells.Chain.{Chain}
+use Rattle.chain.specs.Links.{cell_at, chain_at, arc_at, chain, on, on_chain}
+use Rattle.chain.proofs.Chains.{on_first, on_rest, has_first, sub_more}
 use Rattle.chain.proofs.memory.ChainStore.find.Goals as goal
-use Rattle.chain.proofs.memory.ChainStore.find.Goals.{else-self-cell-via-then-self-cell+else-self-cell-2, else-self-cell-via-else-self-cell}
+use Rattle.chain.proofs.memory.ChainStore.find.Goals.{After-from, else-held-triple-via-then-held-triple+else-held-triple-2, else-held-triple-via-else-held-triple}
 
-pub loop-left-init : goal.loop-left-init
-loop-left-init c =
-    let m = c.args.self.now in
-    let s = c.args.subject in
-    (λ h. m.cells s _ (on_first m.next (get_or m.fans s 0) (get_or m.heads s 0) h), λ f h. h, refl)
+pub loop-init : goal.loop-init
+loop-init c =
+    let head = ap (λ (chain : Chain). chain.head) c.chain-chain.ensures in
+    (λ f h. rw (sub-zero, head) at h, rw (sub-zero, head) refl)
 
-pub returns-then-self-cell-2 : goal.returns-then-self-cell-2
-returns-then-self-cell-2 c =
-    let m = c.args.self.now in
-    (c.loop-left.invariant.1 _ (on_first m.next c.loop-left.left c.loop-left.cell c.loop-left-test.true), search rules, search rules)
+-- some of the chain is left, and its first cell is one of the memory's
 
-pub loop-left-preserved : goal.loop-left-preserved
-loop-left-preserved c =
+left : (c : After-from) → 0 < (chain_at c.args.self.now.chains c.args.triple.subject).fan - c.loop.counter
+left c = omega (arith, ap (λ (chain : Chain). chain.fan) c.chain-chain.ensures)
+
+below : (c : After-from) → c.from.result < 512
+below c =
     let m = c.args.self.now in
-    let some = c.loop-left-test.true in
-    let kept : (f : ℕ) → on m.next (c.loop-left.left - 1) (get_or m.next c.loop-left.cell 0) f ≡ true → on_chain m.heads m.fans m.next c.args.subject f ≡ true =
-    λ f h. c.loop-left.invariant.1 f (on_rest m.next c.loop-left.left c.loop-left.cell f some h) in
-    let other : same (get_or m.properties c.loop-left.cell 0, get_or m.objects c.loop-left.cell 0) c.args.property c.args.object ≡ false =
-    elim c.else-self-cell.branch [ else-self-cell-via-then-self-cell+else-self-cell-2 w ↦ and_right _ _ (ne_eqb _ _ w.if-self-cell-2.false) | else-self-cell-via-else-self-cell w ↦ and_left _ _ (ne_eqb _ _ w.if-self-cell.false) ] in (
-      λ h. m.cells c.args.subject _ (kept _ (on_first m.next (c.loop-left.left - 1) (get_or m.next c.loop-left.cell 0) h)),
-      kept,
-      has_first m.next m.properties m.objects c.loop-left.left c.loop-left.cell c.args.property c.args.object some other ∙ c.loop-left.invariant.2,
-    )
+    rw c.from.ensures (m.linked c.args.triple.subject c.loop.cell (c.loop.invariant.0 c.loop.cell (on_first m.cells _ c.loop.cell (left c))))
+
+pub offset_bounds-self-from : goal.offset_bounds-self-from
+offset_bounds-self-from c = omega (arith, below (goal.at.offset_bounds-self-from c).After-from)
+
+pub bounds-self-from : goal.bounds-self-from
+bounds-self-from c = below (goal.at.bounds-self-from c).After-from
+
+pub loop-preserved : goal.loop-preserved
+loop-preserved c =
+    let m = c.args.self.now in
+    let s = c.args.triple.subject in
+    let p = c.args.triple.property in
+    let o = c.args.triple.object in
+    let k = (chain_at m.chains s).fan - c.loop.counter in
+    let some : 0 < k = omega (arith, ap (λ (chain : Chain). chain.fan) c.chain-chain.ensures) in
+    let kept : (f : ℕ) → on m.cells (k - 1) (cell_at m.cells c.loop.cell).next f ≡ true → on_chain m.chains m.cells s f ≡ true =
+    λ f h. c.loop.invariant.0 f (on_rest m.cells k c.loop.cell f some h) in
+    let other : same (arc_at m.cells c.from.result) p o ≡ false =
+    elim c.else-held-triple.branch [ else-held-triple-via-then-held-triple+else-held-triple-2 w ↦ and_right _ _ (ne_eqb _ _ w.if-held-triple-2.false) | else-held-triple-via-else-held-triple w ↦ and_left _ _ (ne_eqb _ _ w.if-held-triple.false) ] in
+    let differs : same (arc_at m.cells c.loop.cell) p o ≡ false = rw c.from.ensures at other in
+    (simp (sub_more, c.from.ensures) kept, simp (sub_more, c.from.ensures) (has_first m.cells k c.loop.cell p o some differs ∙ c.loop.invariant.1))
+
+pub returns : goal.returns
+returns c =
+    let m = c.args.self.now in
+    let none : (chain_at m.chains c.args.triple.subject).fan - c.loop.counter ≡ 0 = omega (arith, ap (λ (chain : Chain). chain.fan) c.chain-chain.ensures) in
+    sym c.loop.invariant.1 ∙ ap (λ k. has c.args.triple.property c.args.triple.object (chain m.cells k c.loop.cell)) none

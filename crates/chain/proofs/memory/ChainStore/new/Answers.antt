@@ -1,41 +1,37 @@
-use Rattle.std.proofs.Common.{◌≡◌, ℕ, ◌<◌, false, ◌≢◌, [], length, get_or, replicate, sym, refl, ◌∙◌, arith, get_or-set_other, get_or-set_same, rules, below_more}
-use Rattle.std.proofs.lemmas.List.{length-set}
-use Rattle.triple.proofs.Changes.{total_none}
+use Rattle.std.proofs.Common.{rules, ◌≡◌, ℕ, ◌<◌, false, List, [], length, get_or, replicate, sym, refl, ◌∙◌, arith}
+use Rattle.triple.proofs.Changes.{clash, total_none}
+use Rattle.chain.specs.declared.cells.Chain.{Chain}
+use Rattle.chain.specs.declared.cells.Cell.{Cell}
 use Rattle.chain.specs.Links.{arcs_of, on_chain}
-use Rattle.chain.proofs.Chains.{zero_at, empty_at}
+use Rattle.chain.proofs.Chains.{bare_at}
 use Rattle.chain.proofs.memory.ChainStore.new.Goals as goal
 
-pub loop-i-preserved : goal.loop-i-preserved
-loop-i-preserved c = (
-  simp length-set c.loop-i.invariant.0,
-  below_more _ _
-      (λ k h. let ne : k ≢ c.loop-i.i = omega arith in rw get_or-set_other (c.loop-i.invariant.1 k h))
-      (let lt : c.loop-i.i < length c.loop-i.free = omega arith in rw get_or-set_same),
-)
+module _ (bare : Chain) (cells : List Cell) (fan : bare.fan ≡ 0) where
+  none : (n : ℕ) → arcs_of (replicate 256 bare) cells n ≡ []
+  none n = rw (bare_at bare 256 n fan) refl
 
-bare : (n : ℕ) → arcs_of (replicate 256 0) (replicate 256 0) (replicate 512 0) (replicate 512 0) (replicate 512 0) n ≡ []
-bare n = empty_at (replicate 256 0) (replicate 512 0) (replicate 512 0) (replicate 512 0) 256 n
-
-off : (n c : ℕ) → on_chain (replicate 256 0) (replicate 256 0) (replicate 512 0) n c ≡ false
-off n c = rw (zero_at 256 n) refl
+  off : (n c : ℕ) → on_chain (replicate 256 bare) cells n c ≡ false
+  off n c = rw (bare_at bare 256 n fan) refl
 
 pub invariant_of-result : goal.invariant_of-result
 invariant_of-result c =
-    let all : (k : ℕ) → k < 512 → get_or c.loop-i.free k 0 ≡ k = λ k h. c.loop-i.invariant.1 k (omega arith) in
+    let cells = replicate 512 c.default-2.result in
+    let fan = c.default.ensures.1 in
+    let long : length c.from.result.items ≡ 512 = c.from.ensures.1 in
+    let numbered : (k : ℕ) → k < 512 → get_or c.from.result.items k 0 ≡ k = λ k h. rw c.from.ensures.0 (let at = (c.from_fn-free.ensures.items.at k 0 h).2 in search rules) in
     record {
       small = omega arith;
-      room = omega arith;
-      counted = sym (total_none _ _ bare);
-      few = λ n. rw (zero_at 256 n) (omega arith);
-      past = λ n h. zero_at 256 n;
-      apart = λ n. rw (bare n) refl;
-      within = λ n. rw (bare n) refl;
-      cells = λ n k h. let z : false ≡ _ = sym (off n k) ∙ h in let y : ◌≡◌ {A = ℕ} 0 1 = cc in omega arith;
-      own = λ n m k. rw (off n k) refl;
-      spare = λ i h. rw (all i h) h;
-      unused = λ i n h. off n _;
-      unlike = λ i j h. sym (all i h.0) ∙ h.2 ∙ all j h.1;
+      counted = omega (arith, total_none _ c.min.result (none c.default.result cells fan));
+      few = λ n. rw (bare_at c.default.result 256 n fan) (omega arith);
+      past = λ n h. bare_at c.default.result 256 n fan;
+      apart = λ n. rw (none c.default.result cells fan n) refl;
+      within = λ n. rw (none c.default.result cells fan n) refl;
+      linked = λ n k h. clash (sym h ∙ off c.default.result cells fan n k);
+      own = λ n m k. rw (off c.default.result cells fan n k) refl;
+      spare = λ i h. rw (numbered i (omega arith)) (omega arith);
+      unused = λ i n h. off c.default.result cells fan n _;
+      unlike = λ i j h. sym (numbered i (omega arith)) ∙ h.2 ∙ numbered j (omega arith);
     }
 
-pub returns : goal.returns
-returns c = record { nodes = search rules; empty = bare }
+pub returns-clause-empty : goal.returns-clause-empty
+returns-clause-empty c = none c.default.result (replicate 512 c.default-2.result) c.default.ensures.1
