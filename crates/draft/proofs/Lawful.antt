@@ -1,9 +1,8 @@
 -- Tables that are not refused are lawful. Assumes nothing.
-use Rattle.std.proofs.Common.{◌≡◌, ℕ, ◌<◌, Bool, true, false, cond, length, get_or, is_some, Some, None, Option, refl, sym, subst, zero-add}
+use Rattle.std.proofs.Common.{◌≡◌, ℕ, ◌<◌, Bool, true, false, cond, length, get_or, Some, None, Option, refl, sym, subst, zero-add}
 use Rattle.std.proofs.lemmas.Bool.{leb-true, ltb-true}
 use Rattle.std.proofs.lemmas.Option.{none-some}
-use Rattle.shapes.proofs.Decide.{false_is_not}
-use Rattle.draft.specs.Lawful.{Lawful, AreLawful}
+use Rattle.draft.specs.Lawful.{AreLawful}
 use Rattle.draft.specs.Refusals.{Told, first_from, definition_refusal, shape_refusal, triple_refusal, row_refusal}
 use Rattle.draft.specs.declared.rows.ShapeRow.TheVariants.{Value}
 use Rattle.draft.specs.declared.rows.TripleRow.TheVariants.{Empty}
@@ -40,10 +39,3 @@ are_lawful t e =
       in_order = λ r h. (passed _ _ _ (passed _ _ _ (triple r h)).1).0;
       known = known t (λ r h. (passed _ _ _ (triple r h)).0);
     }
-
-pub none_from_test : (o : Option Told) → is_some o ≡ false → o ≡ None
-none_from_test None e = refl
-none_from_test (Some t) e = false_is_not (sym e)
-
-pub lawful_from_test : (t : _) → is_some (row_refusal t) ≡ false → Lawful t
-lawful_from_test t e = are_lawful t (none_from_test _ e)

@@ -3,7 +3,7 @@ use Rattle.std.proofs.Common.{ℕ, ◌≤◌, Bool, ◌&&◌, ltb, Decides, refl
 use Rattle.shapes.specs.Expr.{Schema}
 use Rattle.shapes.specs.References.{Refers, Mentions, Path, here, step, Stratification}
 use Rattle.draft.specs.Tables.{schema_of}
-use Rattle.draft.proofs.Lawful.{are_lawful, none_from_test}
+use Rattle.draft.proofs.Lawful.{are_lawful}
 use Rattle.references.specs.Members.{how_many}
 use Rattle.references.specs.Mentions.{mentions}
 use Rattle.references.specs.Ways.{way}
@@ -39,4 +39,4 @@ stratified t e =
     )
 
 pub some_strata : SomeStrata
-some_strata s = (stratified (accepted s) (none_from_test _ s.tables.lawful)).1 s.acyclic
+some_strata s = (stratified (accepted s) s.tables.lawful).1 s.acyclic

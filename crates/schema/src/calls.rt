@@ -41,7 +41,7 @@ impl Schema {
         ensures kept { MatchResult result (λ n. drop n bytes.new ≡ drop n bytes.old) (λ _. bytes.new ≡ bytes.old) }
     {
         self.tables.lawful();
-        let labels = self.tables.definitions().len();
+        let labels = self.label_count();
         if bytes.len() < labels {
             return Err(SchemaFault::ShortBuffer);
         }

@@ -10,12 +10,6 @@ use crate::schema::Schema;
 use draft::{PropertySet, ShapeRow, TripleRow};
 use tables::LawfulTables;
 
-fn at<T: Copy>(rows: &[T], row: u8) -> Option<T>
-    ensures { result ≡ slice_get rows.now row }
-{
-    rows.get(row as usize).copied()
-}
-
 impl Schema {
     // How many labels there are.
     pub fn label_count(&self) -> usize
@@ -28,29 +22,28 @@ impl Schema {
     pub fn definition(&self, label: u8) -> Option<u8>
         ensures { result ≡ slice_get (accepted self.now).definitions label }
     {
-        at(self.definitions(), label)
+        self.definitions().get(usize::from(label)).copied()
     }
 
     pub fn shape(&self, row: u8) -> Option<ShapeRow>
         ensures { result ≡ slice_get (accepted self.now).shapes row }
     {
-        at(self.shapes(), row)
+        self.shapes().get(usize::from(row)).copied()
     }
 
     pub fn triple(&self, row: u8) -> Option<TripleRow>
         ensures { result ≡ slice_get (accepted self.now).triples row }
     {
-        at(self.triples(), row)
+        self.triples().get(usize::from(row)).copied()
     }
 
     // Whether the property is in the set; a set that is not there holds none.
     pub fn contains(&self, set: u8, property: u8) -> bool
         ensures { result ≡ (meaning self.now).sets set property }
     {
-        match self.sets().get(set as usize) {
-            Some(properties) => properties.contains(property),
-            None => false,
-        }
+        self.sets()
+            .get(usize::from(set))
+            .is_some_and(|properties| properties.contains(property))
     }
 
     pub fn definitions(&self) -> &[u8]

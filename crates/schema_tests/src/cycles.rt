@@ -1,23 +1,16 @@
 // Recursion with and without negation.
-use draft::{Draft, PropertySet, SchemaFault, ShapeRow, TripleRow};
-use schema::Schema;
-use std::test::Fail;
+use crate::answer::answer;
+use draft::{PropertySet, SchemaFault, ShapeRow, TripleRow};
 
 // The labels' definitions over arcs of one property to labels 0, 1 and 2: the triple row of an arc is its label.
-fn answer<'x>(definitions: &'x [u8], shapes: &'x [ShapeRow]) -> Result<(), SchemaFault> {
-    let mut schema = Schema::new();
+fn answer_over_arcs(definitions: &[u8], shapes: &[ShapeRow]) -> Result<(), SchemaFault> {
     let triples = [
         TripleRow::Arc(0, 0),
         TripleRow::Arc(0, 1),
         TripleRow::Arc(0, 2),
     ];
     let sets = [PropertySet::from_words([2, 0, 0, 0])];
-    schema.accept(&Draft {
-        definitions,
-        shapes,
-        triples: &triples,
-        sets: &sets,
-    })
+    answer(definitions, shapes, &triples, &sets)
 }
 
 #[test]
@@ -29,25 +22,13 @@ fn mutual_negation(rt: HostRuntime) {
         ShapeRow::Not(2),
         ShapeRow::Value(0),
     ];
-    assert!(rt;
-        matches!(
-            answer(&[1, 3, 4], &shapes),
-            Err(SchemaFault::Negation(0, 1))
-        )
-    );
+    assert_eq!(rt; answer_over_arcs(&[1, 3, 4], &shapes), Err(SchemaFault::Negation(0, 1)));
 }
 
 #[test]
 fn negation_twice_is_negation(rt: HostRuntime) {
-    let mut schema = Schema::new();
     let shapes = [ShapeRow::Hood(0), ShapeRow::Not(0), ShapeRow::Not(1)];
-    let draft = Draft {
-        definitions: &[2],
-        shapes: &shapes,
-        triples: &[TripleRow::Arc(0, 0)],
-        sets: &[PropertySet::EMPTY],
-    };
-    assert!(rt; matches!(schema.accept(&draft), Err(SchemaFault::Negation(0, 0))));
+    assert_eq!(rt; answer(&[2], &shapes, &[TripleRow::Arc(0, 0)], &[PropertySet::EMPTY]), Err(SchemaFault::Negation(0, 0)));
 }
 
 #[test]
@@ -59,7 +40,7 @@ fn recursion_without_negation(rt: HostRuntime) {
         ShapeRow::And(0, 1),
         ShapeRow::Or(2, 3),
     ];
-    assert!(rt; matches!(answer(&[4, 4, 4], &shapes), Ok(())));
+    assert_eq!(rt; answer_over_arcs(&[4, 4, 4], &shapes), Ok(()));
 }
 
 #[test]
@@ -72,7 +53,7 @@ fn negation_below_a_positive_cycle(rt: HostRuntime) {
         ShapeRow::Hood(0),
         ShapeRow::Value(0),
     ];
-    assert!(rt; matches!(answer(&[3, 4, 5], &shapes), Ok(())));
+    assert_eq!(rt; answer_over_arcs(&[3, 4, 5], &shapes), Ok(()));
 }
 
 #[test]
@@ -84,12 +65,7 @@ fn negation_with_a_positive_way_back(rt: HostRuntime) {
         ShapeRow::Value(0),
         ShapeRow::Hood(0),
     ];
-    assert!(rt;
-        matches!(
-            answer(&[2, 1, 4], &shapes),
-            Err(SchemaFault::Negation(1, 2))
-        )
-    );
+    assert_eq!(rt; answer_over_arcs(&[2, 1, 4], &shapes), Err(SchemaFault::Negation(1, 2)));
 }
 
 #[test]
@@ -100,12 +76,7 @@ fn one_negated_way_down_is_enough(rt: HostRuntime) {
         ShapeRow::Or(0, 1),
         ShapeRow::Value(0),
     ];
-    assert!(rt;
-        matches!(
-            answer(&[2, 3, 3], &shapes),
-            Err(SchemaFault::Negation(0, 0))
-        )
-    );
+    assert_eq!(rt; answer_over_arcs(&[2, 3, 3], &shapes), Err(SchemaFault::Negation(0, 0)));
 }
 
 #[test]
@@ -117,88 +88,40 @@ fn the_lowest_labels_are_named(rt: HostRuntime) {
         ShapeRow::Not(2),
         ShapeRow::Value(0),
     ];
-    assert!(rt;
-        matches!(
-            answer(&[4, 3, 3], &shapes),
-            Err(SchemaFault::Negation(1, 1))
-        )
-    );
-    assert!(rt;
-        matches!(
-            answer(&[4, 4, 3], &shapes),
-            Err(SchemaFault::Negation(2, 2))
-        )
-    );
+    assert_eq!(rt; answer_over_arcs(&[4, 3, 3], &shapes), Err(SchemaFault::Negation(1, 1)));
+    assert_eq!(rt; answer_over_arcs(&[4, 4, 3], &shapes), Err(SchemaFault::Negation(2, 2)));
 }
 
 #[test]
 fn unused_rows_never_refer(rt: HostRuntime) {
     let shapes = [ShapeRow::Hood(0), ShapeRow::Not(0)];
-    assert!(rt; matches!(answer(&[0, 0, 0], &shapes), Ok(())));
+    assert_eq!(rt; answer_over_arcs(&[0, 0, 0], &shapes), Ok(()));
 }
 
 #[test]
 fn bounds_before_negation(rt: HostRuntime) {
-    let mut schema = Schema::new();
     let shapes = [ShapeRow::Hood(0), ShapeRow::Not(0)];
     let triples = [TripleRow::Arc(0, 0), TripleRow::Times(0, 2, Some(1))];
-    let draft = Draft {
-        definitions: &[1],
-        shapes: &shapes,
-        triples: &triples,
-        sets: &[PropertySet::EMPTY],
-    };
-    assert!(rt; matches!(schema.accept(&draft), Err(SchemaFault::Bounds(1))));
+    assert_eq!(rt; answer(&[1], &shapes, &triples, &[PropertySet::EMPTY]), Err(SchemaFault::Bounds(1)));
 }
 
 // An arc that no repeat ever uses still refers.
 #[test]
 fn an_arc_repeated_never(rt: HostRuntime) {
-    let mut schema = Schema::new();
     let shapes = [ShapeRow::Hood(1), ShapeRow::Not(0)];
     let triples = [TripleRow::Arc(0, 0), TripleRow::Times(0, 0, Some(0))];
-    let draft = Draft {
-        definitions: &[1],
-        shapes: &shapes,
-        triples: &triples,
-        sets: &[PropertySet::EMPTY],
-    };
-    assert!(rt; matches!(schema.accept(&draft), Err(SchemaFault::Negation(0, 0))));
+    assert_eq!(rt; answer(&[1], &shapes, &triples, &[PropertySet::EMPTY]), Err(SchemaFault::Negation(0, 0)));
 }
 
 // Each row names the row before it twice: its expression has 2^100 arcs, and the rows are visited once each.
 #[test]
-fn a_tower_of_shared_rows(rt: HostRuntime) -> Result<(), Fail> {
+fn a_tower_of_shared_rows(rt: HostRuntime) {
     let mut triples = [TripleRow::Arc(0, 0); 101];
-    let mut below: u8 = 0;
-    for row in 1..101 {
-        triples[row] = TripleRow::Each(below, below);
-        below = row as u8;
+    for (row, below) in triples[1..].iter_mut().zip(0..) {
+        *row = TripleRow::Each(below, below);
     }
-    let mut schema = Schema::new();
     let shapes = [ShapeRow::Hood(100), ShapeRow::Not(0)];
     let sets = [PropertySet::EMPTY];
-    assert!(rt;
-        matches!(
-            schema.accept(&Draft {
-                definitions: &[0],
-                shapes: &shapes,
-                triples: &triples,
-                sets: &sets
-            }),
-            Ok(())
-        )
-    );
-    assert!(rt;
-        matches!(
-            schema.accept(&Draft {
-                definitions: &[1],
-                shapes: &shapes,
-                triples: &triples,
-                sets: &sets
-            }),
-            Err(SchemaFault::Negation(0, 0))
-        )
-    );
-    Ok(())
+    assert_eq!(rt; answer(&[0], &shapes, &triples, &sets), Ok(()));
+    assert_eq!(rt; answer(&[1], &shapes, &triples, &sets), Err(SchemaFault::Negation(0, 0)));
 }

@@ -1,273 +1,136 @@
 // One draft for each refusal by length or row, and for pairs of refusals the one that comes first.
-use draft::{Draft, PropertySet, SchemaFault, ShapeRow, Table, TripleRow};
-use schema::Schema;
+use crate::answer::answer;
+use draft::{PropertySet, SchemaFault, ShapeRow, Table, TripleRow};
 
 const VALUE: ShapeRow = ShapeRow::Value(7);
 
-fn answer<'x>(
-    definitions: &'x [u8],
-    shapes: &'x [ShapeRow],
-    triples: &'x [TripleRow],
-    sets: &'x [PropertySet],
-) -> Result<(), SchemaFault> {
-    let mut schema = Schema::new();
-    schema.accept(&Draft {
-        definitions,
-        shapes,
-        triples,
-        sets,
-    })
-}
-
 #[test]
 fn no_rows(rt: HostRuntime) {
-    assert!(rt; matches!(answer(&[], &[], &[], &[]), Ok(())));
+    assert_eq!(rt; answer(&[], &[], &[], &[]), Ok(()));
 }
 
 #[test]
 fn limits_met(rt: HostRuntime) {
-    assert!(rt;
-        matches!(
-            answer(
+    assert_eq!(rt; answer(
                 &[127; 32],
                 &[VALUE; 128],
                 &[TripleRow::Empty; 128],
                 &[PropertySet::EMPTY; 32]
-            ),
-            Ok(())
-        )
-    );
+            ), Ok(()));
 }
 
 #[test]
 fn labels_past_the_limit(rt: HostRuntime) {
-    assert!(rt;
-        matches!(
-            answer(&[0; 33], &[VALUE; 129], &[], &[]),
-            Err(SchemaFault::TooLong(Table::Labels))
-        )
-    );
+    assert_eq!(rt; answer(&[0; 33], &[VALUE; 129], &[], &[]), Err(SchemaFault::TooLong(Table::Labels)));
 }
 
 #[test]
 fn shapes_past_the_limit(rt: HostRuntime) {
-    assert!(rt;
-        matches!(
-            answer(&[200], &[VALUE; 129], &[TripleRow::Empty; 129], &[]),
-            Err(SchemaFault::TooLong(Table::ShapeRows))
-        )
-    );
+    assert_eq!(rt; answer(&[200], &[VALUE; 129], &[TripleRow::Empty; 129], &[]), Err(SchemaFault::TooLong(Table::ShapeRows)));
 }
 
 #[test]
 fn triples_past_the_limit(rt: HostRuntime) {
-    assert!(rt;
-        matches!(
-            answer(
+    assert_eq!(rt; answer(
                 &[200],
                 &[],
                 &[TripleRow::Empty; 129],
                 &[PropertySet::EMPTY; 33]
-            ),
-            Err(SchemaFault::TooLong(Table::TripleRows))
-        )
-    );
+            ), Err(SchemaFault::TooLong(Table::TripleRows)));
 }
 
 #[test]
 fn sets_past_the_limit(rt: HostRuntime) {
-    assert!(rt;
-        matches!(
-            answer(&[200], &[], &[], &[PropertySet::EMPTY; 33]),
-            Err(SchemaFault::TooLong(Table::Sets))
-        )
-    );
+    assert_eq!(rt; answer(&[200], &[], &[], &[PropertySet::EMPTY; 33]), Err(SchemaFault::TooLong(Table::Sets)));
 }
 
 #[test]
 fn definitions(rt: HostRuntime) {
-    assert!(rt; matches!(answer(&[0], &[], &[], &[]), Err(SchemaFault::Definition(0))));
-    assert!(rt;
-        matches!(
-            answer(&[0, 1, 9], &[VALUE], &[], &[]),
-            Err(SchemaFault::Definition(1))
-        )
-    );
-    assert!(rt;
-        matches!(
-            answer(&[1], &[ShapeRow::Not(0)], &[], &[]),
-            Err(SchemaFault::Definition(0))
-        )
-    );
+    assert_eq!(rt; answer(&[0], &[], &[], &[]), Err(SchemaFault::Definition(0)));
+    assert_eq!(rt; answer(&[0, 1, 9], &[VALUE], &[], &[]), Err(SchemaFault::Definition(1)));
+    assert_eq!(rt; answer(&[1], &[ShapeRow::Not(0)], &[], &[]), Err(SchemaFault::Definition(0)));
 }
 
 #[test]
 fn shapes_that_name_themselves_or_later_rows(rt: HostRuntime) {
-    assert!(rt;
-        matches!(
-            answer(&[], &[ShapeRow::Not(0)], &[], &[]),
-            Err(SchemaFault::ShapeRow(0))
-        )
-    );
-    assert!(rt;
-        matches!(
-            answer(&[], &[VALUE, ShapeRow::And(0, 1)], &[], &[]),
-            Err(SchemaFault::ShapeRow(1))
-        )
-    );
-    assert!(rt;
-        matches!(
-            answer(&[], &[VALUE, ShapeRow::Or(2, 0), VALUE], &[], &[]),
-            Err(SchemaFault::ShapeRow(1))
-        )
-    );
-    assert!(rt;
-        matches!(
-            answer(
+    assert_eq!(rt; answer(&[], &[ShapeRow::Not(0)], &[], &[]), Err(SchemaFault::ShapeRow(0)));
+    assert_eq!(rt; answer(&[], &[VALUE, ShapeRow::And(0, 1)], &[], &[]), Err(SchemaFault::ShapeRow(1)));
+    assert_eq!(rt; answer(&[], &[VALUE, ShapeRow::Or(2, 0), VALUE], &[], &[]), Err(SchemaFault::ShapeRow(1)));
+    assert_eq!(rt; answer(
                 &[],
                 &[VALUE, ShapeRow::Or(0, 0), ShapeRow::And(0, 1)],
                 &[],
                 &[]
-            ),
-            Ok(())
-        )
-    );
+            ), Ok(()));
 }
 
 #[test]
 fn hoods(rt: HostRuntime) {
-    assert!(rt;
-        matches!(
-            answer(&[], &[ShapeRow::Hood(0)], &[], &[]),
-            Err(SchemaFault::ShapeRow(0))
-        )
-    );
-    assert!(rt;
-        matches!(
-            answer(
+    assert_eq!(rt; answer(&[], &[ShapeRow::Hood(0)], &[], &[]), Err(SchemaFault::ShapeRow(0)));
+    assert_eq!(rt; answer(
                 &[],
                 &[ShapeRow::Hood(1)],
                 &[TripleRow::Empty, TripleRow::Empty],
                 &[]
-            ),
-            Ok(())
-        )
-    );
+            ), Ok(()));
 }
 
 #[test]
 fn shapes_before_triples(rt: HostRuntime) {
-    assert!(rt;
-        matches!(
-            answer(
+    assert_eq!(rt; answer(
                 &[],
                 &[VALUE, ShapeRow::Not(1)],
                 &[TripleRow::Each(0, 0)],
                 &[]
-            ),
-            Err(SchemaFault::ShapeRow(1))
-        )
-    );
+            ), Err(SchemaFault::ShapeRow(1)));
 }
 
 #[test]
 fn triples_that_name_themselves_or_later_rows(rt: HostRuntime) {
-    assert!(rt;
-        matches!(
-            answer(&[], &[], &[TripleRow::Each(0, 0)], &[]),
-            Err(SchemaFault::TripleRow(0))
-        )
-    );
-    assert!(rt;
-        matches!(
-            answer(&[], &[], &[TripleRow::Empty, TripleRow::Some(0, 1)], &[]),
-            Err(SchemaFault::TripleRow(1))
-        )
-    );
-    assert!(rt;
-        matches!(
-            answer(&[], &[], &[TripleRow::Times(0, 0, None)], &[]),
-            Err(SchemaFault::TripleRow(0))
-        )
-    );
+    assert_eq!(rt; answer(&[], &[], &[TripleRow::Each(0, 0)], &[]), Err(SchemaFault::TripleRow(0)));
+    assert_eq!(rt; answer(&[], &[], &[TripleRow::Empty, TripleRow::Some(0, 1)], &[]), Err(SchemaFault::TripleRow(1)));
+    assert_eq!(rt; answer(&[], &[], &[TripleRow::Times(0, 0, None)], &[]), Err(SchemaFault::TripleRow(0)));
 }
 
 #[test]
 fn arcs(rt: HostRuntime) {
     let sets = [PropertySet::EMPTY];
-    assert!(rt;
-        matches!(
-            answer(&[0], &[VALUE], &[TripleRow::Arc(0, 0)], &sets),
-            Ok(())
-        )
-    );
-    assert!(rt;
-        matches!(
-            answer(&[0, 0], &[VALUE], &[TripleRow::Arc(1, 1)], &sets),
-            Err(SchemaFault::TripleRow(0))
-        )
-    );
-    assert!(rt;
-        matches!(
-            answer(&[0], &[VALUE], &[TripleRow::Arc(0, 1)], &sets),
-            Err(SchemaFault::TripleRow(0))
-        )
-    );
+    assert_eq!(rt; answer(&[0], &[VALUE], &[TripleRow::Arc(0, 0)], &sets), Ok(()));
+    assert_eq!(rt; answer(&[0, 0], &[VALUE], &[TripleRow::Arc(1, 1)], &sets), Err(SchemaFault::TripleRow(0)));
+    assert_eq!(rt; answer(&[0], &[VALUE], &[TripleRow::Arc(0, 1)], &sets), Err(SchemaFault::TripleRow(0)));
 }
 
 #[test]
 fn bounds(rt: HostRuntime) {
-    assert!(rt;
-        matches!(
-            answer(
+    assert_eq!(rt; answer(
                 &[],
                 &[],
                 &[TripleRow::Empty, TripleRow::Times(0, 3, Some(2))],
                 &[]
-            ),
-            Err(SchemaFault::Bounds(1))
-        )
-    );
-    assert!(rt;
-        matches!(
-            answer(
+            ), Err(SchemaFault::Bounds(1)));
+    assert_eq!(rt; answer(
                 &[],
                 &[],
                 &[TripleRow::Empty, TripleRow::Times(0, 3, Some(3))],
                 &[]
-            ),
-            Ok(())
-        )
-    );
-    assert!(rt;
-        matches!(
-            answer(
+            ), Ok(()));
+    assert_eq!(rt; answer(
                 &[],
                 &[],
                 &[TripleRow::Empty, TripleRow::Times(0, 255, None)],
                 &[]
-            ),
-            Ok(())
-        )
-    );
+            ), Ok(()));
 }
 
 #[test]
 fn names_before_bounds_at_a_row(rt: HostRuntime) {
-    assert!(rt;
-        matches!(
-            answer(
+    assert_eq!(rt; answer(
                 &[],
                 &[],
                 &[TripleRow::Empty, TripleRow::Times(1, 3, Some(2))],
                 &[]
-            ),
-            Err(SchemaFault::TripleRow(1))
-        )
-    );
-    assert!(rt;
-        matches!(
-            answer(
+            ), Err(SchemaFault::TripleRow(1)));
+    assert_eq!(rt; answer(
                 &[],
                 &[],
                 &[
@@ -276,8 +139,5 @@ fn names_before_bounds_at_a_row(rt: HostRuntime) {
                     TripleRow::Each(2, 2)
                 ],
                 &[]
-            ),
-            Err(SchemaFault::Bounds(1))
-        )
-    );
+            ), Err(SchemaFault::Bounds(1)));
 }

@@ -30,11 +30,12 @@ fn small() -> Schema {
 fn a_new_schema_has_no_labels(rt: HostRuntime) {
     let schema = Schema::new();
     let mut bytes = [9; 1];
-    assert!(rt;
-        schema.label_count() == 0 && schema.definition(0).is_none() && schema.shape(0).is_none()
-    );
-    assert!(rt; matches!(schema.strata(&mut bytes), Ok(0)));
-    assert!(rt; bytes[0] == 9 && schema.stratifies(&[]));
+    assert_eq!(rt; schema.label_count(), 0);
+    assert_eq!(rt; schema.definition(0), None);
+    assert_eq!(rt; schema.shape(0), None);
+    assert_eq!(rt; schema.strata(&mut bytes), Ok(0));
+    assert_eq!(rt; bytes, [9]);
+    assert!(rt; schema.stratifies(&[]));
 }
 
 #[test]
@@ -45,17 +46,10 @@ fn a_schema_is_small(rt: HostRuntime) {
 #[test]
 fn questions(rt: HostRuntime) {
     let schema = small();
-    assert!(rt;
-        schema.label_count() == 2
-            && matches!(schema.definition(0), Some(4))
-            && matches!(schema.definition(2), None)
-    );
-    assert!(rt;
-        matches!(schema.shape(4), Some(ShapeRow::And(2, 3))) && matches!(schema.shape(5), None)
-    );
-    assert!(rt;
-        matches!(schema.triple(0), Some(TripleRow::Arc(1, 1))) && matches!(schema.triple(2), None)
-    );
+    assert_eq!(rt; schema.label_count(), 2);
+    assert_eq!(rt; [schema.definition(0), schema.definition(2)], [Some(4), None]);
+    assert_eq!(rt; [schema.shape(4), schema.shape(5)], [Some(ShapeRow::And(2, 3)), None]);
+    assert_eq!(rt; [schema.triple(0), schema.triple(2)], [Some(TripleRow::Arc(1, 1)), None]);
     assert!(rt;
         schema.contains(0, 1)
             && schema.contains(1, 194)
@@ -68,19 +62,17 @@ fn questions(rt: HostRuntime) {
 fn strata(rt: HostRuntime) {
     let schema = small();
     let mut bytes = [77; 4];
-    assert!(rt; matches!(schema.strata(&mut bytes), Ok(2)));
-    assert!(rt;
-        schema.stratifies(&bytes) && bytes[1] < bytes[0] && bytes[2] == 77 && bytes[3] == 77
-    );
+    assert_eq!(rt; schema.strata(&mut bytes), Ok(2));
+    assert!(rt; schema.stratifies(&bytes) && bytes[1] < bytes[0]);
+    assert_eq!(rt; [bytes[2], bytes[3]], [77; 2]);
 }
 
 #[test]
 fn a_short_buffer_stays(rt: HostRuntime) {
     let schema = small();
     let mut bytes = [77; 1];
-    assert!(rt;
-        matches!(schema.strata(&mut bytes), Err(SchemaFault::ShortBuffer)) && bytes[0] == 77
-    );
+    assert_eq!(rt; schema.strata(&mut bytes), Err(SchemaFault::ShortBuffer));
+    assert_eq!(rt; bytes, [77]);
 }
 
 #[test]
@@ -107,21 +99,18 @@ fn a_refused_draft_leaves_the_place(rt: HostRuntime) {
         triples: &[TripleRow::Arc(0, 0)],
         sets: &[PropertySet::EMPTY],
     };
-    assert!(rt; matches!(schema.accept(&draft), Err(SchemaFault::Negation(0, 0))));
-    assert!(rt;
-        schema.label_count() == 2
-            && matches!(schema.shape(1), Some(ShapeRow::Hood(0)))
-            && schema.contains(0, 1)
-    );
+    assert_eq!(rt; schema.accept(&draft), Err(SchemaFault::Negation(0, 0)));
+    assert_eq!(rt; schema.label_count(), 2);
+    assert_eq!(rt; schema.shape(1), Some(ShapeRow::Hood(0)));
+    assert!(rt; schema.contains(0, 1));
     let other = Draft {
         definitions: &[0],
         shapes: &shapes,
         triples: &[TripleRow::Empty],
         sets: &[],
     };
-    assert!(rt;
-        matches!(schema.accept(&other), Ok(()))
-            && schema.label_count() == 1
-            && !schema.contains(0, 1)
-    );
+    assert_eq!(rt; schema.accept(&other), Ok(()));
+    assert_eq!(rt; schema.label_count(), 1);
+    assert!(rt; !schema.contains(0, 1));
+
 }

@@ -4,11 +4,9 @@ use draft::PropertySet;
 #[test]
 fn bits_at_the_ends_of_words(rt: HostRuntime) {
     let set = PropertySet::from_words([1, 1 << 63, 2, 1 << 63]);
-    assert!(rt; set.contains(0) && set.contains(127) && set.contains(129) && set.contains(255));
-    assert!(rt; !set.contains(1) && !set.contains(63) && !set.contains(64) && !set.contains(128));
-    assert!(rt;
-        !set.contains(130) && !set.contains(191) && !set.contains(192) && !set.contains(254)
-    );
+    assert!(rt; [0, 127, 129, 255].iter().all(|&property| set.contains(property)));
+    let outside = [1, 63, 64, 128, 130, 191, 192, 254];
+    assert!(rt; !outside.iter().any(|&property| set.contains(property)));
 }
 
 #[test]

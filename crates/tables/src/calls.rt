@@ -1,19 +1,19 @@
 // How the tables are made, and the questions about them.
-ghost use Rattle.std.specs.Prelude.{◌≡◌, ◌≤◌, length, take, IfOk};
+ghost use Rattle.std.specs.Prelude.{◌≡◌, ◌≤◌, length, IfOk};
 ghost use Rattle.draft.specs.Lawful.{Lawful};
 ghost use Rattle.draft.specs.Refusals.{refusal, row_refusal};
 ghost use Rattle.draft.specs.Tables.{lent, no_rows};
 ghost use Rattle.tables.specs.Held.{held};
 
 use crate::tables::LawfulTables;
+use arrayvec::ArrayVec;
 use draft::{Draft, PropertySet, SchemaFault, ShapeRow, TripleRow};
 
-// Copies the rows to the beginning of the place.
-fn copy_front<T: Copy>(rows: &[T], place: &mut [T])
-    requires { length rows.now ≤ length place.old }
-    ensures { take (length rows.now) place.new ≡ rows.now }
+fn copied<T: Copy + Default, const N: usize>(rows: &[T]) -> ArrayVec<T, N>
+    requires { length rows.now ≤ N }
+    ensures { result.items ≡ rows.now }
 {
-    place[0..rows.len()].copy_from_slice(rows);
+    ArrayVec::try_from(rows).unwrap()
 }
 
 impl LawfulTables {
@@ -23,47 +23,24 @@ impl LawfulTables {
         ensures value { IfOk result (λ t. held t ≡ lent draft.now) }
     {
         draft.check_rows()?;
-        let mut definitions = [0; 32];
-        copy_front(draft.definitions, &mut definitions);
-        let mut shapes = [ShapeRow::Value(0); 128];
-        copy_front(draft.shapes, &mut shapes);
-        let mut triples = [TripleRow::Empty; 128];
-        copy_front(draft.triples, &mut triples);
-        let mut sets = [PropertySet::EMPTY; 32];
-        copy_front(draft.sets, &mut sets);
-        let labels = draft.definitions.len();
-        let shape_count = draft.shapes.len();
-        let triple_count = draft.triples.len();
-        let set_count = draft.sets.len();
         Ok(LawfulTables {
-            labels,
-            shape_count,
-            triple_count,
-            set_count,
-            definitions,
-            shapes,
-            triples,
-            sets,
+            definitions: copied(draft.definitions),
+            shapes: copied(draft.shapes),
+            triples: copied(draft.triples),
+            sets: copied(draft.sets),
         })
     }
 
     // Tables with no rows.
+    #[tactic(auto, unfolding(draft::specs::Refusals::row_refusal))]
     pub fn new() -> LawfulTables
         ensures { held result ≡ no_rows }
     {
-        let definitions = [0; 32];
-        let shapes = [ShapeRow::Value(0); 128];
-        let triples = [TripleRow::Empty; 128];
-        let sets = [PropertySet::EMPTY; 32];
         LawfulTables {
-            labels: 0,
-            shape_count: 0,
-            triple_count: 0,
-            set_count: 0,
-            definitions,
-            shapes,
-            triples,
-            sets,
+            definitions: ArrayVec::new(),
+            shapes: ArrayVec::new(),
+            triples: ArrayVec::new(),
+            sets: ArrayVec::new(),
         }
     }
 
@@ -71,25 +48,25 @@ impl LawfulTables {
     pub fn definitions(&self) -> &[u8]
         ensures { result.now ≡ (held self.now).definitions }
     {
-        &self.definitions[0..self.labels]
+        self.definitions.as_slice()
     }
 
     pub fn shapes(&self) -> &[ShapeRow]
         ensures { result.now ≡ (held self.now).shapes }
     {
-        &self.shapes[0..self.shape_count]
+        self.shapes.as_slice()
     }
 
     pub fn triples(&self) -> &[TripleRow]
         ensures { result.now ≡ (held self.now).triples }
     {
-        &self.triples[0..self.triple_count]
+        self.triples.as_slice()
     }
 
     pub fn sets(&self) -> &[PropertySet]
         ensures { result.now ≡ (held self.now).sets }
     {
-        &self.sets[0..self.set_count]
+        self.sets.as_slice()
     }
 
     // What the tables in memory always are: lawful.

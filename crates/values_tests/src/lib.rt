@@ -63,22 +63,30 @@ mod tests {
         *b"............",
     ];
 
-    #[test]
-    fn each_term_and_test(rt: HostRuntime) {
-        let table = TermTable::new(&TERMS, &TESTS);
-        for (node, row) in HOLDING.iter().enumerate() {
-            for (test, mark) in row.iter().enumerate() {
-                assert_eq!(rt; table.holds(node as u16, test as u16), *mark == b'x');
+    // The rows are the nodes from 0 on, the columns the tests.
+    fn assert_holding<V: ValueTest, const N: usize>(rt: &impl Abort, values: &V, rows: &[[u8; N]]) {
+        for (row, node) in rows.iter().zip(0..) {
+            for (mark, test) in row.iter().zip(0..) {
+                assert_eq!(rt; values.holds(node, test), *mark == b'x');
             }
         }
+    }
+
+    fn assert_literals<V: ValueTest>(rt: &impl Abort, values: &V, marks: &[u8]) {
+        for (mark, node) in marks.iter().zip(0..) {
+            assert_eq!(rt; values.literal(node), *mark == b'x');
+        }
+    }
+
+    #[test]
+    fn each_term_and_test(rt: HostRuntime) {
+        assert_holding(&rt, &TermTable::new(&TERMS, &TESTS), &HOLDING);
     }
 
     #[test]
     fn literal_terms(rt: HostRuntime) {
         let table = TermTable::new(&TERMS, &TESTS);
-        for (node, mark) in b"..xxxxxxx.".iter().enumerate() {
-            assert_eq!(rt; table.literal(node as u16), *mark == b'x');
-        }
+        assert_literals(&rt, &table, b"..xxxxxxx.");
         assert_eq!(rt;
             [
                 table.literal(65535),
@@ -125,14 +133,8 @@ mod tests {
     fn sheet_rows(rt: HostRuntime) {
         let sheet = AnswerSheet::new(&[1, 0, 2, 255], &[1, 0, 1, 0, 1, 2, 255, 1], 3);
         let rows = [*b"x.x...", *b".x....", *b".x....", *b"......"];
-        for (node, row) in rows.iter().enumerate() {
-            for (test, mark) in row.iter().enumerate() {
-                assert_eq!(rt; sheet.holds(node as u16, test as u16), *mark == b'x');
-            }
-        }
-        for (node, mark) in b"x....".iter().enumerate() {
-            assert_eq!(rt; sheet.literal(node as u16), *mark == b'x');
-        }
+        assert_holding(&rt, &sheet, &rows);
+        assert_literals(&rt, &sheet, b"x....");
         assert_eq!(rt;
             [sheet.literal(65535), sheet.holds(65535, 65535)],
             [false; 2]
