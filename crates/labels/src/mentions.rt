@@ -61,12 +61,12 @@ pub struct RowLabels {
 }
 
 impl RowLabels {
-    pub const NONE: RowLabels = RowLabels {
+    pub(crate) const NONE: RowLabels = RowLabels {
         mentioned: LabelSet::NONE,
         negated: LabelSet::NONE,
     };
 
-    pub fn union(self, other: RowLabels) -> RowLabels
+    pub(crate) fn union(self, other: RowLabels) -> RowLabels
         ensures mentioned { (k : ℕ) → member result.mentioned k ≡ (member self.mentioned k || member other.mentioned k) }
         ensures negated { (k : ℕ) → member result.negated k ≡ (member self.negated k || member other.negated k) }
     {

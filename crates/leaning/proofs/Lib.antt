@@ -1,5 +1,4 @@
-pub mod Bit
-pub mod ByRows
+pub mod Admitting
 pub mod Marking
 pub mod Showing
 pub mod Arcs

@@ -2,7 +2,6 @@
 #![tactic(auto)]
 
 mod admitted;
-mod label_set;
 mod pairs;
 mod search;
 

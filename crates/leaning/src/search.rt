@@ -3,14 +3,15 @@ ghost use Rattle.std.specs.Prelude.{◌≡◌, ℕ, ◌+◌, ◌*◌, ◌<◌, �
 ghost use Rattle.shapes.specs.Leaning.{Leans};
 ghost use Rattle.shapes.specs.Typing.{In};
 ghost use Rattle.stack.specs.Entries.{entries};
-ghost use Rattle.leaning.specs.Labels.{member, schema_in};
+ghost use Rattle.labels.specs.Members.{member};
+ghost use Rattle.leaning.specs.Labels.{schema_in};
 ghost use Rattle.shapes.specs.Bytes.{byte_typing};
 ghost use Rattle.leaning.specs.Pairs.{Clean, graph_of, accepted};
 ghost use Rattle.leaning.specs.Search.{Marked, Ready, Grown, Looked};
 
 use crate::admitted::admitted;
-use crate::label_set::LabelSet;
 use crate::pairs::Pairs;
+use labels::LabelSet;
 use stack::{Goal, Stack};
 use tables::LawfulTables;
 use triple::Store;

@@ -1,15 +1,16 @@
 -- The tests of what stands in an expression decide it. Assumes nothing.
-use Rattle.std.proofs.Common.{◌≡◌, ℕ, ◌<◌, Bool, false, ◌&&◌, ltb, Decides, sym, ◌∙◌}
+use Rattle.std.proofs.Common.{◌≡◌, ℕ, ◌<◌, Bool, true, false, ◌&&◌, ltb, Decides, sym, ◌∙◌}
 use Rattle.std.proofs.lemmas.Bool.{and_parts, and_from, ltb-true, lt-ltb, false≢true}
 use Rattle.std.proofs.lemmas.Bool.Decides.{Decides-eqb, Decides-or}
 use Rattle.shapes.specs.Expr.{Triple, empty, arc, each, some, times, Shape, value, hood, and, or, not}
 use Rattle.shapes.specs.References.{HasArc, Mentions, Negates}
-use Rattle.references.specs.Mentions.{has_arc, mentions, negates}
+use Rattle.labels.specs.Mentions.{has_arc}
+use Rattle.references.specs.Mentions.{mentions, negates}
 
 never : Decides false ⊥
 never = (λ e. absurd (false≢true e), λ z. absurd z)
 
-pub decides_arc : (e : Triple) (k : ℕ) → Decides (has_arc e k) (HasArc e k)
+pub decides_arc : (e : Triple) (k : ℕ) → Decides (has_arc (λ s. true) e k) (HasArc e k)
 decides_arc empty k = never
 decides_arc (arc s l) k = Decides-eqb l k
 decides_arc (each x y) k = Decides-or _ _ (decides_arc x k) (decides_arc y k)

@@ -1,5 +1,4 @@
-pub mod Bit
-pub mod ByRows
+pub mod Chains
 pub mod Decided
 pub mod Drawing
 pub mod Paths

@@ -5,7 +5,7 @@ use Rattle.shapes.specs.Expr.{Schema}
 use Rattle.shapes.specs.References.{Refers, Stratification}
 use Rattle.references.specs.Drawn.{Drawn}
 use Rattle.references.specs.Strata.{Placed}
-use Rattle.references.specs.declared.label_set.LabelSet.{LabelSet}
+use Rattle.labels.specs.declared.mentions.RowLabels.{RowLabels}
 use Rattle.references.proofs.Found.{negates_mentions}
 
 -- too few bytes: the first label that has none has no stratum
@@ -15,9 +15,9 @@ too_few S bytes h st =
     omega (arith, get_or_past bytes (length bytes) 0 (omega arith))
 
 -- xs is one number for each label, the first of the bytes
-module _ (S : Schema) (rs ns : List LabelSet) (d : Drawn S rs ns) (known : (l k : ℕ) → Refers S l k → k < S.labels)
+module _ (S : Schema) (rs : List RowLabels) (d : Drawn S rs) (known : (l k : ℕ) → Refers S l k → k < S.labels)
     (xs bytes : List ℕ) (long : length xs ≡ S.labels) (same : (l : ℕ) → l < S.labels → get_or xs l 0 ≡ get_or bytes l 0) where
-  pub placed_strata : ((l : ℕ) → l < length xs → Placed rs ns xs l) → Stratification S (λ l. get_or bytes l 0)
+  pub placed_strata : ((l : ℕ) → l < length xs → Placed rs xs l) → Stratification S (λ l. get_or bytes l 0)
   placed_strata ok =
       record {
         from_one = λ l h. omega (arith, same l h, (ok l (omega arith)).0);
@@ -32,7 +32,7 @@ module _ (S : Schema) (rs ns : List LabelSet) (d : Drawn S rs ns) (known : (l k 
             omega (arith, same l i, same k j, ((ok l (omega arith)).2 k (omega arith)).1 ((d.negated l k).1 n));
       }
 
-  pub strata_placed : Stratification S (λ l. get_or bytes l 0) → (l : ℕ) → l < length xs → Placed rs ns xs l
+  pub strata_placed : Stratification S (λ l. get_or bytes l 0) → (l : ℕ) → l < length xs → Placed rs xs l
   strata_placed st l h =
       let i : l < S.labels = omega arith in (
         omega (arith, same l i, st.from_one l i),

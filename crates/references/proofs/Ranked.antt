@@ -3,7 +3,7 @@ use Rattle.std.proofs.Common.{◌≡◌, ℕ, zero, suc, ◌<◌, ◌≤◌, Boo
 use Rattle.std.proofs.lemmas.Bool.{both_ways, cases_Bool, cases_lt}
 use Rattle.shapes.specs.Expr.{Schema}
 use Rattle.shapes.specs.References.{Refers, NegatedCycle, Path, here, step, Stratification}
-use Rattle.references.specs.Members.{how_many}
+use Rattle.labels.specs.Members.{how_many}
 use Rattle.references.specs.Ways.{way}
 use Rattle.references.proofs.Found.{negates_mentions}
 use Rattle.references.proofs.Paths.{way_path, path_way}

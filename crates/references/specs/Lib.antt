@@ -1,6 +1,5 @@
 pub mod Cycles
 pub mod Drawn
-pub mod Members
 pub mod Mentions
 pub mod Strata
 pub mod Ways

@@ -1,15 +1,20 @@
 -- What a label's stratum owes to those of the labels that it refers to. Assumes nothing.
+--     Keeps s refers negated t            s is not below t if refers, and above t if negated
 --     Above s refers negated strata n     of the labels below n, s is not below the stratum of any that refers holds,
 --                                         and above that of any that negated holds
---     Placed rs ns strata l               the stratum of l is 1 to 32, and keeps to its references in rs and ns
+--     Placed rs strata l                  the stratum of l is 1 to 32, and keeps to its references in rs
 use Rattle.std.specs.Prelude.{◌≡◌, ℕ, ◌<◌, ◌≤◌, Bool, true, List, length, slice_index}
-use Rattle.references.specs.Mentions.{in_row}
-use Rattle.references.specs.declared.label_set.LabelSet.{LabelSet}
+use Rattle.labels.specs.Rows.{mentioned_in, negated_in}
+use Rattle.labels.specs.declared.mentions.RowLabels.{RowLabels}
+
+abbrev pub Keeps : ℕ → Bool → Bool → ℕ → Type 0
+Keeps s refers negated t = (refers ≡ true → t ≤ s) × (negated ≡ true → t < s)
 
 abbrev pub Above : ℕ → (ℕ → Bool) → (ℕ → Bool) → List ℕ → ℕ → Type 0
 Above s refers negated strata n =
-    (k : ℕ) → k < n → (refers k ≡ true → slice_index strata k ≤ s) × (negated k ≡ true → slice_index strata k < s)
+    (k : ℕ) → k < n → Keeps s (refers k) (negated k) (slice_index strata k)
 
-abbrev pub Placed : List LabelSet → List LabelSet → List ℕ → ℕ → Type 0
-Placed rs ns strata l =
-    (1 ≤ slice_index strata l) × (slice_index strata l ≤ 32) × Above (slice_index strata l) (in_row rs l) (in_row ns l) strata (length strata)
+abbrev pub Placed : List RowLabels → List ℕ → ℕ → Type 0
+Placed rs strata l =
+    (1 ≤ slice_index strata l) × (slice_index strata l ≤ 32)
+    × Above (slice_index strata l) (mentioned_in rs l) (negated_in rs l) strata (length strata)

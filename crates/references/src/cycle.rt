@@ -3,33 +3,26 @@ ghost use Rattle.std.specs.Prelude.{◌≡◌, ℕ, ◌<◌, false, Some, MatchO
 ghost use Rattle.shapes.specs.References.{NegatedCycle};
 ghost use Rattle.draft.specs.Tables.{schema_of};
 ghost use Rattle.tables.specs.Held.{held};
-ghost use Rattle.references.specs.Cycles.{FirstOnCycle, Lowest, closes};
+ghost use Rattle.references.specs.Cycles.{FirstOnCycle, Lowest, leads_back, closes};
 
-use crate::drawn::References;
-use crate::label_set::LabelSet;
 use crate::reach::reached;
+use labels::{EveryArc, LabelSet, RowLabels, labels_of_definitions};
 use tables::LawfulTables;
 
-// The lowest label that the label l refers to under a NOT and that leads back to l.
-fn back_to(l: usize, negated: &[LabelSet; 32], reach: &[LabelSet; 32]) -> Option<u8>
-    requires { l < 32 }
-    ensures { Lowest result (closes negated.now reach.now l) }
+// The lowest of the labels that leads back to the label l.
+fn back_to(l: u8, labels: LabelSet, reach: &[LabelSet; 32]) -> Option<u8>
+    ensures { Lowest result (leads_back labels reach.now l) }
 {
-    let labels = negated[l];
-    for k in 0..32 {
-        if labels.contains(k) && reach[k].contains(l) {
-            return Some(k as u8);
-        }
-    }
-    None
+    (0..32).find(|k| labels.contains(*k) && reach[usize::from(*k)].contains(l))
 }
 
-fn first_cycle(negated: &[LabelSet; 32], reach: &[LabelSet; 32]) -> Option<(u8, u8)>
-    ensures { MatchOption result ((l k : ℕ) → l < 32 → k < 32 → closes negated.now reach.now l k ≡ false) (λ p. (p.0 < 32) × Lowest (Some p.1) (closes negated.now reach.now p.0) × ((l k : ℕ) → l < p.0 → k < 32 → closes negated.now reach.now l k ≡ false)) }
+fn first_cycle(references: &[RowLabels; 32], reach: &[LabelSet; 32]) -> Option<(u8, u8)>
+    ensures { MatchOption result ((l k : ℕ) → l < 32 → k < 32 → closes references.now reach.now l k ≡ false) (λ p. (p.0 < 32) × Lowest (Some p.1) (closes references.now reach.now p.0) × ((l k : ℕ) → l < p.0 → k < 32 → closes references.now reach.now l k ≡ false)) }
 {
-    for l in 0..32 {
-        if let Some(k) = back_to(l, negated, reach) {
-            return Some((l as u8, k));
+    for (l, labels) in references.iter().enumerate() {
+        let from = l as u8;
+        if let Some(to) = back_to(from, labels.negated, reach) {
+            return Some((from, to));
         }
     }
     None
@@ -40,7 +33,7 @@ pub fn negated_cycle(tables: &LawfulTables) -> Option<(u8, u8)>
     ensures { MatchOption result (NegatedCycle (schema_of (held tables.now)) → ⊥) (λ p. FirstOnCycle (schema_of (held tables.now)) p.0 p.1) }
 {
     tables.lawful();
-    let references = References::of(tables);
-    let reach = reached(&references.refers);
-    first_cycle(&references.negated, &reach)
+    let references = labels_of_definitions(tables, &EveryArc);
+    let reach = reached(&references);
+    first_cycle(&references, &reach)
 }

@@ -1,10 +1,7 @@
-// Which label refers to which in lawful tables, the negated references on a cycle, and stratifications.
+// The negated references on a cycle, and the stratifications of lawful tables.
 #![tactic(auto)]
 
 mod cycle;
-mod drawn;
-mod label_set;
-mod mentions;
 mod reach;
 mod strata;
 

@@ -4,7 +4,7 @@ use Rattle.shapes.specs.Expr.{Schema}
 use Rattle.shapes.specs.References.{Refers, Mentions, Path, here, step, Stratification}
 use Rattle.draft.specs.Tables.{schema_of}
 use Rattle.draft.proofs.Lawful.{are_lawful}
-use Rattle.references.specs.Members.{how_many}
+use Rattle.labels.specs.Members.{how_many}
 use Rattle.references.specs.Mentions.{mentions}
 use Rattle.references.specs.Ways.{way}
 use Rattle.references.proofs.Decided.{decides_mentions, decides_below}

@@ -4,7 +4,7 @@ use Rattle.shapes.specs.Typing.{In}
 use Rattle.stack.specs.Entries.{entries}
 use Rattle.stack.specs.declared.Goal.{Goal}
 use Rattle.stack.specs.declared.Stack.{Stack}
-use Rattle.leaning.specs.Labels.{member}
+use Rattle.labels.specs.Members.{member}
 use Rattle.shapes.specs.Bytes.{byte_typing}
 use Rattle.leaning.specs.Search.{Ready, Grown}
 use Rattle.leaning.proofs.Marking.{grown_then, grown_like, covered_kept}

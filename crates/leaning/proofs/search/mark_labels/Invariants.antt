@@ -1,7 +1,7 @@
 use Rattle.std.proofs.Common.{◌≡◌, ℕ, ◌<◌, true, ◌⊎◌}
 use Rattle.shapes.specs.Typing.{In}
 use Rattle.stack.specs.Entries.{entries}
-use Rattle.leaning.specs.Labels.{member}
+use Rattle.labels.specs.Members.{member}
 use Rattle.shapes.specs.Bytes.{byte_typing}
 use Rattle.leaning.specs.Search.{Ready, Grown}
 use Rattle.leaning.proofs.search.mark_labels.Given as goal

@@ -1,5 +1,5 @@
 use Rattle.std.proofs.Common.{◌&&◌, ◌||◌, sym, ap, ◌∙◌, ap₂, add-one, arith}
-use Rattle.references.specs.Mentions.{in_row}
+use Rattle.labels.specs.Rows.{mentioned_in}
 use Rattle.references.specs.Ways.{way}
 use Rattle.references.proofs.reach.reached.Goals as goal
 
@@ -10,7 +10,7 @@ loop-m-init c = c.with_self-reach.ensures
 pub loop-m-preserved : goal.loop-m-preserved
 unfolding way
 loop-m-preserved c a k h =
-    let R = in_row c.args.refers.now in
+    let R = mentioned_in c.args.references.now in
     let m = c.loop-m.m in
     c.through.ensures a k h
     ∙ ap₂ (λ x y. x || y) (c.loop-m.invariant a k h) (ap₂ (λ x y. x && y) (c.loop-m.invariant a m h) (c.loop-m.invariant m k (omega arith)))

@@ -2,6 +2,7 @@ use Rattle.std.proofs.Common.{◌≡◌, ℕ, ◌-◌, ◌<◌, ◌≤◌, lengt
 use Rattle.std.proofs.lemmas.Bool.{false≢true}
 use Rattle.draft.specs.Tables.{schema_of}
 use Rattle.tables.specs.Held.{held}
+use Rattle.references.proofs.Drawing.{drawn}
 use Rattle.references.proofs.Placing.{too_few, placed_strata, strata_placed}
 use Rattle.references.proofs.strata.stratifies.Goals as goal
 
@@ -19,9 +20,9 @@ returns c =
     let enough : count ≤ length bytes = omega arith in
     let long : length (take count bytes) ≡ S.labels = length-take-le count bytes enough ∙ (omega arith) in
     let same : (l : ℕ) → l < S.labels → get_or (take count bytes) l 0 ≡ get_or bytes l 0 = λ l h. get_or-take count bytes l 0 (omega arith) in
-    let rs = c.of-references.result.refers in
-    let ns = c.of-references.result.negated in
+    let rs = c.labels_of_definitions-references.result in
+    let d = drawn S rs c.labels_of_definitions-references.ensures.mentioned c.labels_of_definitions-references.ensures.negated in
     let law = c.lawful.ensures in (
-      λ e. placed_strata S rs ns c.of-references.ensures law.known (take count bytes) bytes long same (c.are_placed.ensures.0 e),
-      λ st. c.are_placed.ensures.1 (strata_placed S rs ns c.of-references.ensures law.known (take count bytes) bytes long same st),
+      λ e. placed_strata S rs d law.known (take count bytes) bytes long same (c.are_placed.ensures.0 e),
+      λ st. c.are_placed.ensures.1 (strata_placed S rs d law.known (take count bytes) bytes long same st),
     )

@@ -1,4 +1,4 @@
-use Rattle.std.proofs.Common.{eqb, ltb, sym, ap, ◌∙◌, arith}
+use Rattle.std.proofs.Common.{eqb, sym, ap, ◌∙◌, arith}
 use Rattle.std.proofs.lemmas.Bool.{le-ltb}
 use Rattle.std.proofs.lemmas.Nat.Bits.{bit_at_above}
 use Rattle.labels.proofs.label_set.LabelSet.contains.Goals as goal
