@@ -1,8 +1,8 @@
 -- One stratum after the other, from the verdicts on the held pairs to those on the wanted ones.
-use Rattle.std.proofs.Common.{◌≡◌, ℕ, ◌+◌, ◌<◌, ◌≤◌, true, false, cond, ◌⊎◌, ◌↔◌, List, get_or, sym, ap, ◌∙◌, inl, inr, arith}
+use Rattle.std.proofs.Common.{◌≡◌, ℕ, ◌+◌, ◌<◌, ◌≤◌, true, false, cond, ◌⊎◌, ◌↔◌, List, get_or, sym, ap, ◌∙◌, inl, inr, ⊎_elim, arith}
 use mathlib.Core.Logic.Iff
 use native.Mathlib.Decide.{dec_lt}
-use Rattle.std.proofs.lemmas.Bool.{cases_Bool, both_ways, cond-true, cond-false, cond_both}
+use Rattle.std.proofs.lemmas.Bool.{false_from_ne_true, both_ways, cond-true, cond-false, cond_both}
 use Rattle.std.proofs.lemmas.Nat.{mod-mul-add}
 use Rattle.shapes.specs.Expr.{Schema}
 use Rattle.shapes.specs.Typing.{Graph, Typing, In, Satisfied, Maximal}
@@ -13,7 +13,6 @@ use Rattle.refine.specs.Deciding.{stratum, either, table, Right, Ready, is_wante
 use Rattle.refine.specs.declared.due.Due.{Due}
 use Rattle.refine.specs.Due.{is_due}
 use Rattle.refine.specs.Narrowing.{Narrowed, Stable}
-use Rattle.refine.proofs.Steps.{at_equal}
 use Rattle.refine.proofs.Places.{place_below, decides_shown, shown_same, decides_either, decides_wanted, decides_due}
 
 module _ (S : Schema) (G : Graph) (strata held wanted : List ℕ) where
@@ -29,22 +28,16 @@ module _ (S : Schema) (G : Graph) (strata held wanted : List ℕ) where
         → (n l : ℕ) → In (either (table S G held) (table S G wanted)) n l → stratum strata l < i → In (table S G x) n l ↔ Maximal S G (stratum strata) n l
 
   within : (n l : ℕ) → In both n l → (n < G.nodes) × (l < S.labels)
-  within n l c = pick ((decides_either (table S G held) (table S G wanted) n l).0 c)
-    where
-      pick : In (table S G held) n l ⊎ In (table S G wanted) n l → (n < G.nodes) × (l < S.labels)
-      pick (inl h) = ((decides_shown G.nodes S.labels held n l).0 h).0
-      pick (inr h) = ((decides_shown G.nodes S.labels wanted n l).0 h).0
+  within n l c =
+      ⊎_elim (λ h. ((decides_shown G.nodes S.labels held n l).0 h).0) (λ h. ((decides_shown G.nodes S.labels wanted n l).0 h).0)
+      ((decides_either (table S G held) (table S G wanted) n l).0 c)
 
   -- a held pair is not a wanted one
   module _ (x₀ : List ℕ) (ready : Ready S G (stratum strata) (table S G held) (table S G wanted) (table S G x₀)) where
     not_wanted : (n l : ℕ) → In (table S G held) n l → is_wanted S G wanted (place S.labels n l) ≡ false
-    not_wanted n l h = pick (cases_Bool (is_wanted S G wanted (place S.labels n l)))
-      where
-        pick : (is_wanted S G wanted (place S.labels n l) ≡ true) ⊎ (is_wanted S G wanted (place S.labels n l) ≡ false) → is_wanted S G wanted (place S.labels n l) ≡ false
-        pick (inr e) = e
-        pick (inl e) =
-            absurd (ready.apart n l h
-            ((decides_shown G.nodes S.labels wanted n l).1 (((decides_shown G.nodes S.labels held n l).0 h).0, ((decides_wanted S G wanted (place S.labels n l)).0 e).1)))
+    not_wanted n l h =
+        false_from_ne_true (is_wanted S G wanted (place S.labels n l)) (λ e. ready.apart n l h
+        ((decides_shown G.nodes S.labels wanted n l).1 (((decides_shown G.nodes S.labels held n l).0 h).0, ((decides_wanted S G wanted (place S.labels n l)).0 e).1)))
 
     -- so its verdict stays
     pub held_right : (x : List ℕ) → Untouched S G wanted x₀ x → Right S G (stratum strata) (table S G held) (table S G x)
@@ -92,11 +85,8 @@ module _ (S : Schema) (G : Graph) (held : List ℕ) (due : Due) (nodes : due.nod
   inside = within S G strata held wanted
 
   not_due : (k : ℕ) → is_wanted S G wanted k ≡ false → is_due due k ≡ false
-  not_due k e = pick (cases_Bool (is_due due k))
-    where
-      pick : (is_due due k ≡ true) ⊎ (is_due due k ≡ false) → is_due due k ≡ false
-      pick (inr f) = f
-      pick (inl f) = let w = (decides_due S G due nodes labels k).0 f in absurd (both_ways (is_wanted S G wanted k) e ((decides_wanted S G wanted k).1 (w.0, w.1.0)))
+  not_due k e =
+      false_from_ne_true (is_due due k) (λ f. let w = (decides_due S G due nodes labels k).0 f in both_ways (is_wanted S G wanted k) e ((decides_wanted S G wanted k).1 (w.0, w.1.0)))
 
   module _ (risen : Risen S G strata held wanted i x₀ x) (raised : (k : ℕ) → get_or y k 0 ≡ cond (is_due due k) 1 (get_or x k 0))
       (narrowed : Narrowed S G due y z) (stable : Stable S G due z) where
@@ -120,13 +110,9 @@ module _ (S : Schema) (G : Graph) (held : List ℕ) (due : Due) (nodes : due.nod
           (place_below G.nodes S.labels n l w.0.0 w.0.1, (w.1, ap (λ l. get_or strata l 0) (mod-mul-add n S.labels l w.0.1) ∙ e))
 
       low_same : (n l : ℕ) → l < S.labels → stratum strata l < i → get_or y (place S.labels n l) 0 ≡ get_or x (place S.labels n l) 0
-      low_same n l h z = pick (cases_Bool (is_due due (place S.labels n l)))
-        where
-          pick : (is_due due (place S.labels n l) ≡ true) ⊎ (is_due due (place S.labels n l) ≡ false)
-              → get_or y (place S.labels n l) 0 ≡ get_or x (place S.labels n l) 0
-          pick (inr e) = raised_same (place S.labels n l) e
-          pick (inl e) =
-              absurd (omega (arith, ((decides_due S G due nodes labels (place S.labels n l)).0 e).1.1, ap (λ l. get_or strata l 0) (mod-mul-add n S.labels l h)))
+      low_same n l h z =
+          raised_same (place S.labels n l) (false_from_ne_true (is_due due (place S.labels n l))
+          (λ e. omega (arith, ((decides_due S G due nodes labels (place S.labels n l)).0 e).1.1, ap (λ l. get_or strata l 0) (mod-mul-add n S.labels l h))))
 
       raised_has : (n l : ℕ) → stratum strata l ≡ i → In (table S G held) n l ⊎ In (table S G wanted) n l → Maximal S G (stratum strata) n l → In (table S G y) n l
       raised_has n l e (inl h) m = (held_right S G strata held wanted x₀ ready y untouched_raised n l h).1 m
@@ -158,11 +144,5 @@ module _ (S : Schema) (G : Graph) (held : List ℕ) (due : Due) (nodes : due.nod
       right_next n l c h (yes g) = covers.below n l c g
       right_next n l c h (no g) = (refined S G (stratum strata) ready.stratified pairs ready.closed inside i (table S G z) covers).1 all_stable n l c (omega arith)
 
-    next : Risen S G strata held wanted (i + 1) x₀ z
-    next = record { same = untouched; bits = bits_next; right = λ ready n l c h. right_next ready n l c h (dec_lt (stratum strata l) i) }
-
-  -- the narrowing by a schema and a graph that equal these
-  pub risen_next : Risen S G strata held wanted i x₀ x → ((k : ℕ) → get_or y k 0 ≡ cond (is_due due k) 1 (get_or x k 0))
-      → (S' : Schema) (G' : Graph) → S' ≡ S → G' ≡ G → Narrowed S' G' due y z → Stable S' G' due z → Risen S G strata held wanted (i + 1) x₀ z
-  risen_next risen raised S' G' e f narrowed stable =
-      next risen raised (at_equal (λ S G. Narrowed S G due y z) S' S G' G e f narrowed) (at_equal (λ S G. Stable S G due z) S' S G' G e f stable)
+    pub risen_next : Risen S G strata held wanted (i + 1) x₀ z
+    risen_next = record { same = untouched; bits = bits_next; right = λ ready n l c h. right_next ready n l c h (dec_lt (stratum strata l) i) }

@@ -1,9 +1,9 @@
 -- The steps of refinement: one node, one pass over the marked nodes, one stratum.
-use Rattle.std.proofs.Common.{◌≡◌, ℕ, ◌+◌, ◌*◌, ◌<◌, ◌≤◌, Bool, true, false, ◌⊎◌, ◌↔◌, List, length, get_or, set, take, drop, sum, sym, refl, ap, ◌∙◌, subst, inl, inr, arith}
-use native.Mathlib.Decide.{ℕ_discrete, dec_lt}
+use Rattle.std.proofs.Common.{◌≡◌, ℕ, ◌+◌, ◌*◌, ◌<◌, ◌≤◌, Bool, true, false, ◌⊎◌, ◌↔◌, List, length, get_or, set, take, drop, sum, sym, refl, ap, ◌∙◌, subst, inl, inr, ⊎_elim, ◌||◌, below_more, arith}
+use native.Mathlib.Decide.{ℕ_discrete}
 use borrow.Rule.Slice.PartMut.{put_mid}
 use Rattle.std.proofs.lemmas.List.{get_or-set_same, get_or-set_other}
-use Rattle.std.proofs.lemmas.Bool.{both_ways, true≢false, cases_Bool}
+use Rattle.std.proofs.lemmas.Bool.{both_ways, true≢false, cases_Bool, or_parts, or_cases}
 use Rattle.std.proofs.lemmas.Bool.Decides.{not_from_Decides}
 use Rattle.std.proofs.lemmas.Nat.{mod-mul-add}
 use Rattle.shapes.specs.Expr.{Schema}
@@ -202,47 +202,31 @@ module _ (S : Schema) (G : Graph) (due : Due) where
           absurd (subst (λ L. (l : ℕ) → l < L → get_or x (o * L + l) 0 ≡ 1 → is_due due (o * L + l) ≡ true → ⊥) fits.labels none l h
           (ap (λ n. get_or x (place S.labels n l) 0) (sym e) ∙ ((decides_shown G.nodes S.labels x n l).0 a).1) (ap (λ n. is_due due (place S.labels n l)) (sym e) ∙ d))
 
-  module _ (marks : List Bool) (x : List ℕ) where
-    module _ (any : Bool) (marks' : List Bool) (y : List ℕ) (m : ℕ) (p : Passed S G due any marks marks' x y m) where
-      pub passed_unmarked : get_or marks' m false ≡ false → Passed S G due any marks marks' x y (m + 1)
-      passed_unmarked e =
-          record { change = p.change; after = p.after; same = λ f. ((p.same f).0, λ n h. at n h (p.same f).1 (dec_lt n m)); fewer = p.fewer }
-        where
-          at : (n : ℕ) → n < m + 1 → ((n : ℕ) → n < m → get_or marks' n false ≡ false) → Dec (n < m) → get_or marks' n false ≡ false
-          at n h f (yes g) = f n g
-          at n h f (no g) = let d : n ≡ m = omega arith in ap (λ n. get_or marks' n false) d ∙ e
+  -- one more of the nodes: it has no mark, or is checked
+  module _ (any : Bool) (marks marks' : List Bool) (x y : List ℕ) (m : ℕ) (p : Passed S G due any marks marks' x y m) where
+    pub passed_unmarked : get_or marks' m false ≡ false → Passed S G due any marks marks' x y (m + 1)
+    passed_unmarked e = record { change = p.change; after = p.after; same = λ f. ((p.same f).0, below_more _ m (p.same f).1 e); fewer = p.fewer }
 
-      more_or_less : sum y ≤ sum x
-      more_or_less = pick any p
-        where
-          pick : (any : Bool) → Passed S G due any marks marks' x y m → sum y ≤ sum x
-          pick true p = omega (arith, p.fewer refl)
-          pick false p = omega (arith, ap sum (p.same refl).0)
+    no_more : sum y ≤ sum x
+    no_more = ⊎_elim (λ e. omega (arith, p.fewer e)) (λ e. omega (arith, ap sum (p.same e).0)) (cases_Bool any)
 
-      pub passed_cleared : (marks'' : List Bool) (z : List ℕ) → Visited S G due true marks' marks'' y z m → Passed S G due true marks marks'' x z (m + 1)
-      passed_cleared marks'' z v =
-          record {
-            change = narrowed_trans x y z p.change v.change;
-            after = λ s. v.after (p.after s);
-            same = λ e. absurd (true≢false e);
-            fewer = λ e. omega (arith, more_or_less, v.fewer e);
-          }
+    pub passed_visited : (any' : Bool) (marks'' : List Bool) (z : List ℕ) → m < length marks' → Visited S G due any' marks' marks'' y z m
+        → Passed S G due (any || any') marks marks'' x z (m + 1)
+    passed_visited any' marks'' z long v =
+        record {
+          change = narrowed_trans x y z p.change v.change;
+          after = λ s. v.after (p.after s);
+          same = λ e. same_parts (or_parts any any' e);
+          fewer = λ e. ⊎_elim (λ t. omega (arith, p.fewer t, no_more_after)) (λ t. omega (arith, no_more, v.fewer t)) (or_cases any any' e);
+        }
+      where
+        no_more_after : sum z ≤ sum y
+        no_more_after = ⊎_elim (λ e. omega (arith, v.fewer e)) (λ e. omega (arith, ap sum (v.same e).0)) (cases_Bool any')
 
-      pub passed_kept : (marks'' : List Bool) (z : List ℕ) → m < length marks' → Visited S G due false marks' marks'' y z m
-          → Passed S G due any marks marks'' x z (m + 1)
-      passed_kept marks'' z long v =
-          record {
-            change = narrowed_trans x y z p.change v.change;
-            after = λ s. v.after (p.after s);
-            same = λ e. ((v.same refl).0 ∙ (p.same e).0, λ n h. at n h (p.same e).1 (dec_lt n m));
-            fewer = λ e. omega (arith, ap sum (v.same refl).0, p.fewer e);
-          }
-        where
-          at : (n : ℕ) → n < m + 1 → ((n : ℕ) → n < m → get_or marks' n false ≡ false) → Dec (n < m) → get_or marks'' n false ≡ false
-          at n h f (yes g) = ap (λ r. get_or r n false) (v.same refl).1 ∙ get_or-set_other marks' m n false false (λ e. omega arith) ∙ f n g
-          at n h f (no g) =
-              let d : n ≡ m = omega arith in
-              ap (λ r. get_or r n false) (v.same refl).1 ∙ ap (λ n. get_or (set marks' m false) n false) d ∙ get_or-set_same marks' m false false long
+        same_parts : (any ≡ false) × (any' ≡ false) → (z ≡ x) × ((n : ℕ) → n < m + 1 → get_or marks'' n false ≡ false)
+        same_parts (e, f) =
+            let marked : marks'' ≡ set marks' m false = (v.same f).1 in
+            ((v.same f).0 ∙ (p.same e).0, rw marked (below_more _ m (λ n h. get_or-set_other marks' m n false false (λ e. omega arith) ∙ (p.same e).1 n h) (get_or-set_same marks' m false false long)))
 
   -- where no mark is left, all is stable
   pub settled_stable : (marks : List Bool) (x : List ℕ) → ((n : ℕ) → n < G.nodes → get_or marks n false ≡ false) → Settled S G due marks x → Stable S G due x

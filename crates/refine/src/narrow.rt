@@ -58,8 +58,8 @@ fn narrow_marked<C: NodeCheck>(
     let mut cleared = false;
     // No loop over the marks, since a node's check marks others.
     for node in 0..check.node_count() {
-        if marks[usize::from(node)] && narrow_node(check, due, node, marks, typing) {
-            cleared = true;
+        if marks[usize::from(node)] {
+            cleared |= narrow_node(check, due, node, marks, typing);
         }
     }
     cleared
