@@ -1,8 +1,9 @@
 -- The steps of refinement: one node, one pass over the marked nodes, one stratum.
-use Rattle.std.proofs.Common.{◌≡◌, ℕ, ◌+◌, ◌*◌, ◌%◌, ◌<◌, ◌≤◌, Bool, true, false, ◌⊎◌, ◌↔◌, List, length, get_or, set, sum, sym, refl, ap, ◌∙◌, subst, inl, inr, arith}
-use native.Mathlib.Decide.{ℕ_discrete, dec_lt}
+use Rattle.std.proofs.Common.{◌≡◌, ℕ, ◌+◌, ◌*◌, ◌<◌, ◌≤◌, Bool, true, false, ◌⊎◌, ◌↔◌, List, length, get_or, set, take, drop, sum, sym, refl, ap, ◌∙◌, subst, inl, inr, ⊎_elim, ◌||◌, below_more, arith}
+use native.Mathlib.Decide.{ℕ_discrete}
+use borrow.Rule.Slice.PartMut.{put_mid}
 use Rattle.std.proofs.lemmas.List.{get_or-set_same, get_or-set_other}
-use Rattle.std.proofs.lemmas.Bool.{both_ways, true≢false, cases_Bool}
+use Rattle.std.proofs.lemmas.Bool.{both_ways, true≢false, cases_Bool, or_parts, or_cases}
 use Rattle.std.proofs.lemmas.Bool.Decides.{not_from_Decides}
 use Rattle.std.proofs.lemmas.Nat.{mod-mul-add}
 use Rattle.shapes.specs.Expr.{Schema}
@@ -12,10 +13,13 @@ use Rattle.shapes.proofs.Decide.{false_is_not}
 use Rattle.shapes.proofs.Satisfaction.{satisfies_local}
 use Rattle.shapes.proofs.Refinement.{covers_less}
 use Rattle.shapes.specs.Bytes.{place}
+use Rattle.refine.specs.declared.due.Due.{Due}
 use Rattle.refine.specs.Tables.{has_label, Checked}
 use Rattle.refine.specs.Deciding.{stratum, table}
-use Rattle.refine.specs.Narrowing.{is_due, Narrowed, Settled, Stable, Taken, Cleared, Visited, Passed, Marked}
-use Rattle.refine.proofs.Places.{place_below, same_label, same_node, decides_shown, shown_same, decides_due}
+use Rattle.refine.specs.Due.{is_due, Cleared}
+use Rattle.refine.specs.Narrowing.{Fits, Narrowed, Settled, Stable, Visited, Passed, Marked}
+use Rattle.refine.proofs.Thinned.{Taken, Thinned, thinned}
+use Rattle.refine.proofs.Places.{same_label, same_node, decides_shown, shown_same, decides_due}
 
 -- what holds of some values holds of equal ones
 pub at_two : {A B : Type 0} (P : A → B → Type 0) (a a' : A) (b b' : B) → a' ≡ a → b' ≡ b → P a b → P a' b'
@@ -41,11 +45,11 @@ mark_before marks n o e = pick (ℕ_discrete n o)
     pick (yes h) = inl h
     pick (no h) = inr (sym (get_or-set_other marks o n false false h) ∙ e)
 
-module _ (S : Schema) (G : Graph) (strata wanted : List ℕ) (i : ℕ) where
-  pub narrowed_refl : (x : List ℕ) → Narrowed S G strata wanted i x x
+module _ (S : Schema) (G : Graph) (due : Due) where
+  pub narrowed_refl : (x : List ℕ) → Narrowed S G due x x
   narrowed_refl x = record { less = λ k. omega arith; same = λ k e. refl; covers = λ C st closed within v. v }
 
-  pub narrowed_trans : (x y z : List ℕ) → Narrowed S G strata wanted i x y → Narrowed S G strata wanted i y z → Narrowed S G strata wanted i x z
+  pub narrowed_trans : (x y z : List ℕ) → Narrowed S G due x y → Narrowed S G due y z → Narrowed S G due x z
   narrowed_trans x y z a b =
       record {
         less = λ k. omega (arith, a.less k, b.less k);
@@ -53,50 +57,43 @@ module _ (S : Schema) (G : Graph) (strata wanted : List ℕ) (i : ℕ) where
         covers = λ C st closed within v. b.covers C st closed within (a.covers C st closed within v);
       }
 
-  module _ (o : ℕ) (found : List Bool) (x y : List ℕ) (any : Bool) (bound : o < G.nodes) (checked : Checked S G x o found)
-      (c : Cleared strata wanted i (o * S.labels) found x S.labels any y) where
-    due_taken : (k : ℕ) → Taken strata wanted i (o * S.labels) found x S.labels y k → is_due S G strata wanted i k ≡ true
-    due_taken k t =
-        (decides_due S G strata wanted i k).1 (
-          subst (λ k. k < G.nodes * S.labels) (sym t.at) (place_below G.nodes S.labels o t.label bound t.bound),
-          (t.was_wanted, ap (λ k. get_or strata (k % S.labels) 0) t.at ∙ ap (λ l. get_or strata l 0) (mod-mul-add o S.labels t.label t.bound) ∙ t.of_stratum),
-        )
-
+  module _ (x : List ℕ) (fits : Fits S G due x) (o : ℕ) (found : List Bool) (y : List ℕ) (any : Bool) (bound : o < G.nodes) (checked : Checked S G x o found)
+      (c : Thinned due S.labels o found x any y) where
     -- a pair of a node and a label whose byte was cleared
-    gone_label : (n l : ℕ) → l < S.labels → (t : Taken strata wanted i (o * S.labels) found x S.labels y (place S.labels n l)) → l ≡ t.label
+    gone_label : (n l : ℕ) → l < S.labels → (t : Taken due S.labels o found x y (place S.labels n l)) → l ≡ t.label
     gone_label n l h t = same_label S.labels n o l t.label h t.bound t.at
 
-    gone_node : (n l : ℕ) → l < S.labels → (t : Taken strata wanted i (o * S.labels) found x S.labels y (place S.labels n l)) → n ≡ o
+    gone_node : (n l : ℕ) → l < S.labels → (t : Taken due S.labels o found x y (place S.labels n l)) → n ≡ o
     gone_node n l h t = same_node S.labels n o l t.label h t.bound t.at
 
-    less_at : (k : ℕ) → (get_or y k 0 ≡ get_or x k 0) ⊎ Taken strata wanted i (o * S.labels) found x S.labels y k → get_or y k 0 ≤ get_or x k 0
+    less_at : (k : ℕ) → (get_or y k 0 ≡ get_or x k 0) ⊎ Taken due S.labels o found x y k → get_or y k 0 ≤ get_or x k 0
     less_at k (inl e) = omega arith
     less_at k (inr t) = omega (arith, t.after)
 
-    same_at : (k : ℕ) → (get_or y k 0 ≡ get_or x k 0) ⊎ Taken strata wanted i (o * S.labels) found x S.labels y k → is_due S G strata wanted i k ≡ false → get_or y k 0 ≡ get_or x k 0
+    same_at : (k : ℕ) → (get_or y k 0 ≡ get_or x k 0) ⊎ Taken due S.labels o found x y k → is_due due k ≡ false → get_or y k 0 ≡ get_or x k 0
     same_at k (inl e) f = e
-    same_at k (inr t) f = absurd (both_ways (is_due S G strata wanted i k) f (due_taken k t))
+    same_at k (inr t) f = absurd (both_ways (is_due due k) f t.is_due)
 
-    below_at : (n l : ℕ) → l < S.labels → stratum strata l < i → (get_or y (place S.labels n l) 0 ≡ get_or x (place S.labels n l) 0) ⊎ Taken strata wanted i (o * S.labels) found x S.labels y (place S.labels n l)
+    below_at : (n l : ℕ) → l < S.labels → stratum due.strata.now l < due.stratum → (get_or y (place S.labels n l) 0 ≡ get_or x (place S.labels n l) 0) ⊎ Taken due S.labels o found x y (place S.labels n l)
         → In (table S G y) n l ↔ In (table S G x) n l
     below_at n l h z (inl e) = (shown_same G.nodes S.labels y x n l (sym e), shown_same G.nodes S.labels x y n l e)
-    below_at n l h z (inr t) = absurd (omega (arith, ap (λ l. get_or strata l 0) (gone_label n l h t), t.of_stratum))
+    below_at n l h z (inr t) = absurd (omega (arith, ap (λ l. get_or due.strata.now l 0) (mod-mul-add n S.labels l h), ((decides_due S G due fits.nodes fits.labels (place S.labels n l)).0 t.is_due).1.1))
 
     kept_at : (n l : ℕ) → l < S.labels → In (table S G x) n l → Satisfied S G (In (table S G x)) n l
-        → (get_or y (place S.labels n l) 0 ≡ get_or x (place S.labels n l) 0) ⊎ Taken strata wanted i (o * S.labels) found x S.labels y (place S.labels n l)
+        → (get_or y (place S.labels n l) 0 ≡ get_or x (place S.labels n l) 0) ⊎ Taken due S.labels o found x y (place S.labels n l)
         → In (table S G y) n l
     kept_at n l h a s (inl e) = shown_same G.nodes S.labels x y n l e a
     kept_at n l h a s (inr t) =
         let yes_found : has_label found l ≡ true = (checked l bound h).1 (subst (λ n. Satisfied S G (In (table S G x)) n l) (gone_node n l h t) s) in
         absurd (both_ways (has_label found t.label) t.not_found (ap (has_label found) (sym (gone_label n l h t)) ∙ yes_found))
 
-    pub cleared_narrowed : Narrowed S G strata wanted i x y
+    pub cleared_narrowed : Narrowed S G due x y
     cleared_narrowed =
         record {
           less = λ k. less_at k (c.change k);
           same = λ k. same_at k (c.change k);
           covers = λ C st closed within v.
-              covers_less S G (stratum strata) st C closed within i (table S G x) v (table S G y)
+              covers_less S G (stratum due.strata.now) st C closed within due.stratum (table S G x) v (table S G y)
               (λ n l m z. below_at n l (within n l m).1 z (c.change (place S.labels n l)))
               (λ n l m e a s. kept_at n l (within n l m).1 a s (c.change (place S.labels n l)));
         }
@@ -105,7 +102,7 @@ module _ (S : Schema) (G : Graph) (strata wanted : List ℕ) (i : ℕ) where
     had : (n l : ℕ) → In (table S G y) n l → In (table S G x) n l
     had n l h = pick (c.change (place S.labels n l))
       where
-        pick : (get_or y (place S.labels n l) 0 ≡ get_or x (place S.labels n l) 0) ⊎ Taken strata wanted i (o * S.labels) found x S.labels y (place S.labels n l)
+        pick : (get_or y (place S.labels n l) 0 ≡ get_or x (place S.labels n l) 0) ⊎ Taken due S.labels o found x y (place S.labels n l)
             → In (table S G x) n l
         pick (inl e) = shown_same G.nodes S.labels y x n l (sym e) h
         pick (inr t) = absurd (omega (arith, ((decides_shown G.nodes S.labels y n l).0 h).1, t.after))
@@ -114,7 +111,7 @@ module _ (S : Schema) (G : Graph) (strata wanted : List ℕ) (i : ℕ) where
     other : (n l : ℕ) → ¬ (n ≡ o) → In (table S G x) n l → In (table S G y) n l
     other n l ne h = pick (c.change (place S.labels n l))
       where
-        pick : (get_or y (place S.labels n l) 0 ≡ get_or x (place S.labels n l) 0) ⊎ Taken strata wanted i (o * S.labels) found x S.labels y (place S.labels n l)
+        pick : (get_or y (place S.labels n l) 0 ≡ get_or x (place S.labels n l) 0) ⊎ Taken due S.labels o found x y (place S.labels n l)
             → In (table S G y) n l
         pick (inl e) = shown_same G.nodes S.labels x y n l e h
         pick (inr t) = absurd (ne (gone_node n l ((decides_shown G.nodes S.labels x n l).0 h).0.1 t))
@@ -126,21 +123,18 @@ module _ (S : Schema) (G : Graph) (strata wanted : List ℕ) (i : ℕ) where
         (λ p q m k a. other q k (λ e. none (p, subst (λ q. Member (p, q) (G.arcs n)) e m)))
         (λ p q m k a b. had q k)
 
-    found_here : (l : ℕ) → l < S.labels → is_due S G strata wanted i (place S.labels o l) ≡ true → In (table S G y) o l → Satisfied S G (In (table S G x)) o l
-    found_here l h d a =
-        let w = (decides_due S G strata wanted i (place S.labels o l)).0 d in
-        (checked l bound h).0
-        (c.left l h w.1.0 (ap (λ l. get_or strata l 0) (sym (mod-mul-add o S.labels l h)) ∙ w.1.1) ((decides_shown G.nodes S.labels y o l).0 a).1)
+    found_here : (l : ℕ) → l < S.labels → is_due due (place S.labels o l) ≡ true → In (table S G y) o l → Satisfied S G (In (table S G x)) o l
+    found_here l h d a = (checked l bound h).0 (c.left l h d ((decides_shown G.nodes S.labels y o l).0 a).1)
 
     pub settled_after : (marks marks' : List Bool)
         → ((n : ℕ) → n < G.nodes → get_or marks' n false ≡ false → ((n ≡ o) ⊎ (get_or marks n false ≡ false)) × ((y ≡ x) ⊎ (¬ Leads G o n)))
-        → Settled S G strata wanted i marks x → Settled S G strata wanted i marks' y
+        → Settled S G due marks x → Settled S G due marks' y
     settled_after marks marks' f settled n l hn hl m d a = now_at (f n hn m).1 (before_at (f n hn m).0)
       where
         before_at : (n ≡ o) ⊎ (get_or marks n false ≡ false) → Satisfied S G (In (table S G x)) n l
         before_at (inl e) =
             subst (λ n. Satisfied S G (In (table S G x)) n l) (sym e)
-            (found_here l hl (subst (λ n. is_due S G strata wanted i (place S.labels n l) ≡ true) e d) (subst (λ n. In (table S G y) n l) e a))
+            (found_here l hl (subst (λ n. is_due due (place S.labels n l) ≡ true) e d) (subst (λ n. In (table S G y) n l) e a))
         before_at (inr e) = settled n l hn hl e d (had n l a)
 
         now_at : (y ≡ x) ⊎ (¬ Leads G o n) → Satisfied S G (In (table S G x)) n l → Satisfied S G (In (table S G y)) n l
@@ -148,13 +142,13 @@ module _ (S : Schema) (G : Graph) (strata wanted : List ℕ) (i : ℕ) where
         now_at (inr none) s = away n l none s
 
   -- one node, where a byte was cleared and the nodes that lead to it are marked
-  pub visited_cleared : (o : ℕ) (found : List Bool) (x y : List ℕ) (marks marks' : List Bool) → o < G.nodes → Checked S G x o found
-      → Cleared strata wanted i (o * S.labels) found x S.labels true y → Marked (Leads G o) G.nodes (set marks o false) marks'
-      → Visited S G strata wanted i true marks marks' x y o
-  visited_cleared o found x y marks marks' bound checked c m =
+  pub visited_cleared : (x : List ℕ) → Fits S G due x → (o : ℕ) (found : List Bool) (y : List ℕ) (marks marks' : List Bool) → o < G.nodes → Checked S G x o found
+      → Thinned due S.labels o found x true y → Marked (Leads G o) G.nodes (set marks o false) marks'
+      → Visited S G due true marks marks' x y o
+  visited_cleared x fits o found y marks marks' bound checked c m =
       record {
-        change = cleared_narrowed o found x y true bound checked c;
-        after = settled_after o found x y true bound checked c marks marks' (λ n h e. both n h (not_from_Decides (get_or marks' n false) (m.before n h) e));
+        change = cleared_narrowed x fits o found y true bound checked c;
+        after = settled_after x fits o found y true bound checked c marks marks' (λ n h e. both n h (not_from_Decides (get_or marks' n false) (m.before n h) e));
         same = λ e. absurd (true≢false e);
         fewer = c.fewer;
       }
@@ -168,21 +162,32 @@ module _ (S : Schema) (G : Graph) (strata wanted : List ℕ) (i : ℕ) where
           unmarked (inr e) = mark_before marks n o e
 
   -- and where none was
-  pub visited_kept : (o : ℕ) (found : List Bool) (x y : List ℕ) (marks : List Bool) → o < G.nodes → Checked S G x o found
-      → Cleared strata wanted i (o * S.labels) found x S.labels false y → Visited S G strata wanted i false marks (set marks o false) x y o
-  visited_kept o found x y marks bound checked c =
+  pub visited_kept : (x : List ℕ) → Fits S G due x → (o : ℕ) (found : List Bool) (y : List ℕ) (marks : List Bool) → o < G.nodes → Checked S G x o found
+      → Thinned due S.labels o found x false y → Visited S G due false marks (set marks o false) x y o
+  visited_kept x fits o found y marks bound checked c =
       record {
-        change = cleared_narrowed o found x y false bound checked c;
-        after = settled_after o found x y false bound checked c marks (set marks o false) (λ n h e. (mark_before marks n o e, inl (c.same refl)));
+        change = cleared_narrowed x fits o found y false bound checked c;
+        after = settled_after x fits o found y false bound checked c marks (set marks o false) (λ n h e. (mark_before marks n o e, inl (c.same refl)));
         same = λ e. (c.same refl, refl);
         fewer = c.fewer;
       }
 
+  -- the row of one node, written into the table from a on
+  pub visited_row : (x : List ℕ) → Fits S G due x → (o : ℕ) (found : List Bool) (row : List ℕ) (any : Bool) (a n : ℕ) → a ≡ o * due.labels → n ≡ due.labels → a + n ≤ length x → length row ≡ n
+      → Cleared due o found (take n (drop a x)) any row → (marks marks' : List Bool) → o < G.nodes → Checked S G x o found
+      → (any ≡ true → Marked (Leads G o) G.nodes (set marks o false) marks') → (any ≡ false → marks' ≡ set marks o false) → Visited S G due any marks marks' x (put_mid a n x row) o
+  visited_row x fits o found row any a n start size long same c marks marks' bound checked marked kept =
+      pick any marked kept (subst (λ l. Thinned due l o found x any (put_mid a n x row)) fits.labels (thinned due o found x row any a n start size long same c))
+    where
+      pick : (any : Bool) → (any ≡ true → Marked (Leads G o) G.nodes (set marks o false) marks') → (any ≡ false → marks' ≡ set marks o false)
+          → Thinned due S.labels o found x any (put_mid a n x row) → Visited S G due any marks marks' x (put_mid a n x row) o
+      pick true marked kept t = visited_cleared x fits o found (put_mid a n x row) marks marks' bound checked t (marked refl)
+      pick false marked kept t = subst (λ m. Visited S G due false marks m x (put_mid a n x row) o) (sym (kept refl)) (visited_kept x fits o found (put_mid a n x row) marks bound checked t)
+
   -- and where no due pair is there
-  pub visited_none : (o : ℕ) (x : List ℕ) (marks : List Bool)
-      → ((l : ℕ) → l < S.labels → get_or x (place S.labels o l) 0 ≡ 1 → get_or wanted (place S.labels o l) 0 ≡ 1 → get_or strata l 0 ≡ i → ⊥)
-      → Visited S G strata wanted i false marks (set marks o false) x x o
-  visited_none o x marks none =
+  pub visited_none : (x : List ℕ) → Fits S G due x → (o : ℕ) (marks : List Bool)
+      → ((l : ℕ) → l < due.labels → get_or x (o * due.labels + l) 0 ≡ 1 → is_due due (o * due.labels + l) ≡ true → ⊥) → Visited S G due false marks (set marks o false) x x o
+  visited_none x fits o marks none =
       record {
         change = narrowed_refl x;
         after = λ settled n l hn hl m d a. at n l hl d a (mark_before marks n o m) (λ e. settled n l hn hl e d a);
@@ -190,58 +195,39 @@ module _ (S : Schema) (G : Graph) (strata wanted : List ℕ) (i : ℕ) where
         fewer = λ e. false_is_not e;
       }
     where
-      at : (n l : ℕ) → l < S.labels → is_due S G strata wanted i (place S.labels n l) ≡ true → In (table S G x) n l → (n ≡ o) ⊎ (get_or marks n false ≡ false)
+      at : (n l : ℕ) → l < S.labels → is_due due (place S.labels n l) ≡ true → In (table S G x) n l → (n ≡ o) ⊎ (get_or marks n false ≡ false)
           → (get_or marks n false ≡ false → Satisfied S G (In (table S G x)) n l) → Satisfied S G (In (table S G x)) n l
       at n l h d a (inr e) f = f e
       at n l h d a (inl e) f =
-          let w = (decides_due S G strata wanted i (place S.labels n l)).0 d in
-          absurd (none l h
-          (ap (λ n. get_or x (place S.labels n l) 0) (sym e) ∙ ((decides_shown G.nodes S.labels x n l).0 a).1)
-          (ap (λ n. get_or wanted (place S.labels n l) 0) (sym e) ∙ w.1.0)
-          (ap (λ l. get_or strata l 0) (sym (mod-mul-add n S.labels l h)) ∙ w.1.1))
+          absurd (subst (λ L. (l : ℕ) → l < L → get_or x (o * L + l) 0 ≡ 1 → is_due due (o * L + l) ≡ true → ⊥) fits.labels none l h
+          (ap (λ n. get_or x (place S.labels n l) 0) (sym e) ∙ ((decides_shown G.nodes S.labels x n l).0 a).1) (ap (λ n. is_due due (place S.labels n l)) (sym e) ∙ d))
 
-  module _ (marks : List Bool) (x : List ℕ) where
-    module _ (any : Bool) (marks' : List Bool) (y : List ℕ) (m : ℕ) (p : Passed S G strata wanted i any marks marks' x y m) where
-      pub passed_unmarked : get_or marks' m false ≡ false → Passed S G strata wanted i any marks marks' x y (m + 1)
-      passed_unmarked e =
-          record { change = p.change; after = p.after; same = λ f. ((p.same f).0, λ n h. at n h (p.same f).1 (dec_lt n m)); fewer = p.fewer }
-        where
-          at : (n : ℕ) → n < m + 1 → ((n : ℕ) → n < m → get_or marks' n false ≡ false) → Dec (n < m) → get_or marks' n false ≡ false
-          at n h f (yes g) = f n g
-          at n h f (no g) = let d : n ≡ m = omega arith in ap (λ n. get_or marks' n false) d ∙ e
+  -- one more of the nodes: it has no mark, or is checked
+  module _ (any : Bool) (marks marks' : List Bool) (x y : List ℕ) (m : ℕ) (p : Passed S G due any marks marks' x y m) where
+    pub passed_unmarked : get_or marks' m false ≡ false → Passed S G due any marks marks' x y (m + 1)
+    passed_unmarked e = record { change = p.change; after = p.after; same = λ f. ((p.same f).0, below_more _ m (p.same f).1 e); fewer = p.fewer }
 
-      more_or_less : sum y ≤ sum x
-      more_or_less = pick any p
-        where
-          pick : (any : Bool) → Passed S G strata wanted i any marks marks' x y m → sum y ≤ sum x
-          pick true p = omega (arith, p.fewer refl)
-          pick false p = omega (arith, ap sum (p.same refl).0)
+    no_more : sum y ≤ sum x
+    no_more = ⊎_elim (λ e. omega (arith, p.fewer e)) (λ e. omega (arith, ap sum (p.same e).0)) (cases_Bool any)
 
-      pub passed_cleared : (marks'' : List Bool) (z : List ℕ) → Visited S G strata wanted i true marks' marks'' y z m → Passed S G strata wanted i true marks marks'' x z (m + 1)
-      passed_cleared marks'' z v =
-          record {
-            change = narrowed_trans x y z p.change v.change;
-            after = λ s. v.after (p.after s);
-            same = λ e. absurd (true≢false e);
-            fewer = λ e. omega (arith, more_or_less, v.fewer e);
-          }
+    pub passed_visited : (any' : Bool) (marks'' : List Bool) (z : List ℕ) → m < length marks' → Visited S G due any' marks' marks'' y z m
+        → Passed S G due (any || any') marks marks'' x z (m + 1)
+    passed_visited any' marks'' z long v =
+        record {
+          change = narrowed_trans x y z p.change v.change;
+          after = λ s. v.after (p.after s);
+          same = λ e. same_parts (or_parts any any' e);
+          fewer = λ e. ⊎_elim (λ t. omega (arith, p.fewer t, no_more_after)) (λ t. omega (arith, no_more, v.fewer t)) (or_cases any any' e);
+        }
+      where
+        no_more_after : sum z ≤ sum y
+        no_more_after = ⊎_elim (λ e. omega (arith, v.fewer e)) (λ e. omega (arith, ap sum (v.same e).0)) (cases_Bool any')
 
-      pub passed_kept : (marks'' : List Bool) (z : List ℕ) → m < length marks' → Visited S G strata wanted i false marks' marks'' y z m
-          → Passed S G strata wanted i any marks marks'' x z (m + 1)
-      passed_kept marks'' z long v =
-          record {
-            change = narrowed_trans x y z p.change v.change;
-            after = λ s. v.after (p.after s);
-            same = λ e. ((v.same refl).0 ∙ (p.same e).0, λ n h. at n h (p.same e).1 (dec_lt n m));
-            fewer = λ e. omega (arith, ap sum (v.same refl).0, p.fewer e);
-          }
-        where
-          at : (n : ℕ) → n < m + 1 → ((n : ℕ) → n < m → get_or marks' n false ≡ false) → Dec (n < m) → get_or marks'' n false ≡ false
-          at n h f (yes g) = ap (λ r. get_or r n false) (v.same refl).1 ∙ get_or-set_other marks' m n false false (λ e. omega arith) ∙ f n g
-          at n h f (no g) =
-              let d : n ≡ m = omega arith in
-              ap (λ r. get_or r n false) (v.same refl).1 ∙ ap (λ n. get_or (set marks' m false) n false) d ∙ get_or-set_same marks' m false false long
+        same_parts : (any ≡ false) × (any' ≡ false) → (z ≡ x) × ((n : ℕ) → n < m + 1 → get_or marks'' n false ≡ false)
+        same_parts (e, f) =
+            let marked : marks'' ≡ set marks' m false = (v.same f).1 in
+            ((v.same f).0 ∙ (p.same e).0, rw marked (below_more _ m (λ n h. get_or-set_other marks' m n false false (λ e. omega arith) ∙ (p.same e).1 n h) (get_or-set_same marks' m false false long)))
 
   -- where no mark is left, all is stable
-  pub settled_stable : (marks : List Bool) (x : List ℕ) → ((n : ℕ) → n < G.nodes → get_or marks n false ≡ false) → Settled S G strata wanted i marks x → Stable S G strata wanted i x
+  pub settled_stable : (marks : List Bool) (x : List ℕ) → ((n : ℕ) → n < G.nodes → get_or marks n false ≡ false) → Settled S G due marks x → Stable S G due x
   settled_stable marks x clean settled n l hn hl d a = settled n l hn hl (clean n hn) d a

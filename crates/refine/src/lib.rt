@@ -2,9 +2,10 @@
 #![tactic(auto)]
 
 mod check;
+mod due;
 mod narrow;
-mod raise;
 mod strata;
+mod write;
 
 pub use check::NodeCheck;
-pub use strata::decide;
+pub use strata::{TooShort, decide};

@@ -1,12 +1,24 @@
 // The decision of wanted pairs, given the verdicts on held ones.
-ghost use Rattle.std.specs.Prelude.{◌≡◌, ℕ, ◌<◌, ◌≤◌, length, Decides, slice_index};
-ghost use Rattle.refine.specs.Deciding.{Room, Decided, Untouched, Written};
+ghost use Rattle.std.specs.Prelude.{◌≡◌, ◌↔◌, length, Decides, IsOk, OnErr};
+ghost use Rattle.refine.specs.Deciding.{size, Room, Decided, Untouched, Written};
 
 use crate::check::NodeCheck;
+use crate::due::Due;
 use crate::narrow::narrow;
-use crate::raise::{clear_wanted, raise};
+use crate::write::write_where;
+use std::fmt;
 
 const LAST_STRATUM: u8 = 32;
+
+/// A slice does not have a byte for each label or pair.
+#[derive(Clone, Copy, PartialEq, Eq, Debug)]
+pub struct TooShort;
+
+impl fmt::Display for TooShort {
+    fn fmt<W: fmt::Write>(&self, f: &mut fmt::Formatter<W>) -> fmt::Result {
+        write!(f, "a slice is too short")
+    }
+}
 
 // Whether the slices have a stratum for each label and a byte for each pair.
 fn has_room(
@@ -22,44 +34,42 @@ fn has_room(
     labels <= strata.len() && size <= held.len() && size <= wanted.len() && size <= typing.len()
 }
 
-// Whether a label has the stratum.
-fn has_stratum(labels: usize, strata: &[u8], stratum: u8) -> bool
-    requires { labels ≤ length strata.now }
-    ensures { Decides result ((l : ℕ) × (l < labels) × (slice_index strata.now l ≡ stratum)) }
-{
-    for label in 0..labels {
-        if strata[label] == stratum {
-            return true;
-        }
-    }
-    false
-}
-
 /// Writes the verdict on each wanted pair: 1 if the node conforms to the label, else 0.
-/// The held pairs have theirs in the table already. Slices that are too short leave all as it is.
+/// The held pairs have theirs in the table already.
 pub fn decide<C: NodeCheck>(
     check: &mut C,
     strata: &[u8],
     held: &[u8],
     wanted: &[u8],
     typing: &mut [u8],
-)
+) -> Result<(), TooShort>
     ensures kept { (C.NodeCheck.schema check.new ≡ C.NodeCheck.schema check.old) × (C.NodeCheck.graph check.new ≡ C.NodeCheck.graph check.old) }
+    ensures ok { IsOk result ↔ Room (size (C.NodeCheck.schema check.old) (C.NodeCheck.graph check.old)) (C.NodeCheck.schema check.old).labels strata.now held.now wanted.now typing.old }
+    ensures err { OnErr result (typing.new ≡ typing.old) }
     ensures same { Untouched (C.NodeCheck.schema check.old) (C.NodeCheck.graph check.old) wanted.now typing.old typing.new }
     ensures bound { Written (C.NodeCheck.schema check.old) (C.NodeCheck.graph check.old) strata.now held.now wanted.now typing.old typing.new }
     ensures long { length typing.new ≡ length typing.old }
     ensures value { Decided (C.NodeCheck.schema check.old) (C.NodeCheck.graph check.old) strata.now held.now wanted.now typing.old typing.new }
 {
-    let labels = check.label_count() as usize;
-    let size = check.node_count() as usize * labels;
-    if labels == 0 || !has_room(size, labels, strata, held, wanted, typing) {
-        return;
+    let nodes = usize::from(check.node_count());
+    let labels = usize::from(check.label_count());
+    let size = nodes * labels;
+    if !has_room(size, labels, strata, held, wanted, typing) {
+        return Err(TooShort);
     }
-    clear_wanted(size, wanted, typing);
+    write_where(&mut typing[..size], 0, |place, _| wanted[place] == 1);
     for stratum in 1..=LAST_STRATUM {
-        if has_stratum(labels, strata, stratum) {
-            raise(size, labels, strata, wanted, stratum, typing);
-            narrow(check, strata, wanted, stratum, typing);
+        if strata[..labels].contains(&stratum) {
+            let due = Due {
+                nodes,
+                labels,
+                strata,
+                wanted,
+                stratum,
+            };
+            due.raise(typing);
+            narrow(check, &due, typing);
         }
     }
+    Ok(())
 }

@@ -64,7 +64,7 @@ fn decide_wanted<'a, S: Store, V: ValueTest>(
         values,
         scratch,
     };
-    decide(&mut check, &strata, held, wanted, verdicts);
+    decide(&mut check, &strata, held, wanted, verdicts).unwrap();
     hold(
         store.node_count() as usize * schema.label_count(),
         wanted,

@@ -1,72 +1,35 @@
-use Rattle.std.proofs.Common.{◌≡◌, ℕ, ◌+◌, ◌≤◌, Bool, true, false, List, length, sym, ap, ◌∙◌, arith}
-use Rattle.shapes.specs.Expr.{Schema}
-use Rattle.shapes.specs.Typing.{Graph}
-use Rattle.refine.specs.Deciding.{size}
-use Rattle.refine.specs.Narrowing.{Passed, Visited}
-use Rattle.refine.proofs.Steps.{at_equal, at_four, passed_unmarked, passed_cleared, passed_kept}
+use Rattle.std.proofs.Common.{◌≡◌, false, get_or, sym, ap, ◌∙◌, arith}
+use Rattle.refine.proofs.Steps.{passed_unmarked, passed_visited}
 use Rattle.refine.proofs.narrow.narrow_marked.Goals as goal
-use Rattle.refine.proofs.narrow.narrow_marked.Goals.{
-  then-marks-node+then-narrow_node,
-  else-marks-node,
-  else-marks-node-via-then-marks-node+else-narrow_node,
-  else-marks-node-via-else-marks-node,
-}
+use Rattle.refine.proofs.narrow.narrow_marked.Goals.{then-marks-from, else-marks-from}
 
-pub narrow_node-requires : goal.narrow_node-requires
-narrow_node-requires g c =
-    let S = g.C.NodeCheck.schema c.args.check.now in
-    let G = g.C.NodeCheck.graph c.args.check.now in
-    let e : g.C.NodeCheck.schema c.loop-node.check ≡ S = c.loop-node.invariant.0 in
-    let f : g.C.NodeCheck.graph c.loop-node.check ≡ G = c.loop-node.invariant.1 in
-    record {
-      node_bound = omega (arith, ap (λ (G : Graph). G.nodes) f);
-      strata_long = omega (arith, ap (λ (S : Schema). S.labels) e);
-      wanted_long = at_equal (λ S G. size S G ≤ length c.args.wanted.now) S _ G _ (sym e) (sym f) c.requires.wanted_long;
-      typing_long = at_equal (λ S G. size S G ≤ length c.loop-node.typing) S _ G _ (sym e) (sym f) (omega arith);
-      marks_long = omega (arith, ap (λ (G : Graph). G.nodes) f);
-    }
+pub narrow_node-cleared-requires : goal.narrow_node-cleared-requires
+narrow_node-cleared-requires g c =
+    let e : g.C.NodeCheck.schema c.loop-node.check ≡ g.C.NodeCheck.schema c.args.check.now = c.loop-node.invariant.0 in
+    let f : g.C.NodeCheck.graph c.loop-node.check ≡ g.C.NodeCheck.graph c.args.check.now = c.loop-node.invariant.1 in
+    rw (e, f) (record { node_bound = omega arith; fits = record { nodes = c.requires.nodes; labels = c.requires.labels; long = omega arith } })
 
 pub loop-node-preserved : goal.loop-node-preserved
 loop-node-preserved g c =
     let S = g.C.NodeCheck.schema c.args.check.now in
     let G = g.C.NodeCheck.graph c.args.check.now in
-    let e : g.C.NodeCheck.schema c.loop-node.check ≡ S = c.loop-node.invariant.0 in
-    let f : g.C.NodeCheck.graph c.loop-node.check ≡ G = c.loop-node.invariant.1 in
-    let next : g.row.C.Denot → Bool → List Bool → List ℕ → Type 0 =
-    λ k b m x.
-    (g.C.NodeCheck.schema k ≡ S) × (g.C.NodeCheck.graph k ≡ G)
-    × Passed S G c.args.strata.now c.args.wanted.now c.args.stratum b c.args.marks.now m c.args.typing.now x (c.loop-node.node + 1) in
-    elim c.if-marks-node.branch [
-      | then-marks-node+then-narrow_node w ↦
-          at_four next w.narrow_node.new.check _ true _ w.narrow_node.new.marks _ w.narrow_node.new.typing _ w.check-is w.cleared-is w.marks-is w.typing-is (
-            w.narrow_node.ensures.kept.0 ∙ e,
-            w.narrow_node.ensures.kept.1 ∙ f,
-            passed_cleared S G c.args.strata.now c.args.wanted.now c.args.stratum c.args.marks.now c.args.typing.now c.loop-node.cleared c.loop-node.marks c.loop-node.typing
-                c.loop-node.node c.loop-node.invariant.2 w.narrow_node.new.marks w.narrow_node.new.typing
-                (at_equal (λ S G.
-                Visited S G c.args.strata.now c.args.wanted.now c.args.stratum true c.loop-node.marks w.narrow_node.new.marks c.loop-node.typing w.narrow_node.new.typing c.loop-node.node)
-                (g.C.NodeCheck.schema c.loop-node.check) S (g.C.NodeCheck.graph c.loop-node.check) G e f w.if-narrow_node.ensures.change),
+    let l = c.loop-node in
+    let e : g.C.NodeCheck.schema l.check ≡ S = l.invariant.0 in
+    let f : g.C.NodeCheck.graph l.check ≡ G = l.invariant.1 in
+    let d = c.args.due.now in
+    elim c.if-marks-from.branch [
+      | then-marks-from w ↦
+          let k = w.narrow_node-cleared.ensures in
+          rw (w.check-is, w.cleared-is, w.marks-is, w.typing-is) (
+            k.kept.0 ∙ e,
+            k.kept.1 ∙ f,
+            passed_visited S G d l.cleared c.args.marks.now l.marks c.args.typing.now l.typing l.node l.invariant.2 w.narrow_node-cleared.result w.narrow_node-cleared.new.marks w.narrow_node-cleared.new.typing
+                (omega arith) (rw (e, f) at k.change),
           )
-      | else-marks-node w ↦
-          elim w.else-marks-node.branch [
-            | else-marks-node-via-then-marks-node+else-narrow_node v ↦
-                at_four next v.narrow_node.new.check _ c.loop-node.cleared _ v.narrow_node.new.marks _ v.narrow_node.new.typing _ (w.check-is ∙ v.check-is) w.cleared-is (w.marks-is ∙ v.marks-is)
-                (w.typing-is ∙ v.typing-is) (
-                  v.narrow_node.ensures.kept.0 ∙ e,
-                  v.narrow_node.ensures.kept.1 ∙ f,
-                  passed_kept S G c.args.strata.now c.args.wanted.now c.args.stratum c.args.marks.now c.args.typing.now c.loop-node.cleared c.loop-node.marks c.loop-node.typing
-                      c.loop-node.node c.loop-node.invariant.2 v.narrow_node.new.marks v.narrow_node.new.typing (omega arith)
-                      (at_equal (λ S G.
-                      Visited S G c.args.strata.now c.args.wanted.now c.args.stratum false c.loop-node.marks v.narrow_node.new.marks c.loop-node.typing v.narrow_node.new.typing c.loop-node.node)
-                      (g.C.NodeCheck.schema c.loop-node.check) S (g.C.NodeCheck.graph c.loop-node.check) G e f v.if-narrow_node.ensures.change),
-                )
-            | else-marks-node-via-else-marks-node v ↦
-                at_four next c.loop-node.check _ c.loop-node.cleared _ c.loop-node.marks _ c.loop-node.typing _ (w.check-is ∙ v.check-is) w.cleared-is (w.marks-is ∙ v.marks-is)
-                (w.typing-is ∙ v.typing-is) (
-                  e,
-                  f,
-                  passed_unmarked S G c.args.strata.now c.args.wanted.now c.args.stratum c.args.marks.now c.args.typing.now c.loop-node.cleared c.loop-node.marks c.loop-node.typing
-                      c.loop-node.node c.loop-node.invariant.2 v.if-marks-node.false,
-                )
-          ]
+      | else-marks-from w ↦
+          rw (w.check-is, w.cleared-is, w.marks-is, w.typing-is) (
+            e,
+            f,
+            passed_unmarked S G d l.cleared c.args.marks.now l.marks c.args.typing.now l.typing l.node l.invariant.2 (ap (λ i. get_or l.marks i false) (sym c.from.ensures) ∙ w.if-marks-from.false),
+          )
     ]
