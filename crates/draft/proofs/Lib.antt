@@ -2,3 +2,4 @@ pub mod First
 pub mod Known
 pub mod Lawful
 pub mod Trees
+pub mod Flags

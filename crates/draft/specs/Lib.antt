@@ -1,4 +1,5 @@
 pub mod Lawful
+pub mod Named
 pub mod Refusals
 pub mod Rows
 pub mod Sets
