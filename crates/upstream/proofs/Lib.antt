@@ -1,3 +1,3 @@
 pub mod Arcs
 pub mod Nodes
-pub mod Visiting
+pub mod Marking

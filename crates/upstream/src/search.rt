@@ -1,30 +1,42 @@
 // The search against the arcs.
-ghost use Rattle.std.specs.Prelude.{◌≡◌, ℕ, ◌<◌, ◌↔◌, Bool, false, Decides, slice_index_or};
+ghost use Rattle.std.specs.Prelude.{◌≡◌, ℕ, ◌+◌, ◌<◌, ◌≤◌, Bool, true, false, length, Decides, slice_index_or};
 ghost use Rattle.shapes.specs.Leaning.{Reaches};
+ghost use Rattle.stack.specs.Entries.{entries};
 ghost use Rattle.upstream.specs.Nodes.{Has};
-ghost use Rattle.upstream.specs.Search.{graph_of};
+ghost use Rattle.upstream.specs.Search.{graph_of, marked, unmarked, Grown};
 
 use crate::backward::Backward;
 use crate::node_set::NodeSet;
+use stack::Stack;
 use triple::Store;
 
-// The nodes from which triples lead to the subject, itself included; none, where the store has no such node.
-fn reaching<S: Store>(store: &S, subject: u16) -> NodeSet
-    ensures { (passes : ℕ → ℕ → Bool) (n : ℕ) → Has result n ↔ ((subject < S.Store.nodes store.now) × Reaches (graph_of (S.Store.nodes store.now) (S.Store.arcs store.now) passes) subject n) }
+// Marks the node and lets it wait, unless it is marked already.
+fn mark(node: u16, marks: &mut [bool; 256], waiting: &mut Stack<u16>)
+    requires within { node < 256 }
+    requires room { length (entries waiting.old.slots.now waiting.old.len) + unmarked marks.old ≤ length waiting.old.slots.now }
+    ensures change { Grown (λ n. n ≡ node) marks.old (entries waiting.old.slots.now waiting.old.len) marks.new (entries waiting.new.slots.now waiting.new.len) }
+    ensures made { marked marks.new node ≡ true }
+    ensures kept { length waiting.new.slots.now ≡ length waiting.old.slots.now }
 {
-    store.lawful();
-    let mut found = NodeSet::NONE;
-    if subject >= store.node_count() {
-        return found;
+    let place = usize::from(node);
+    if !marks[place] {
+        marks[place] = true;
+        let _ = waiting.push(node);
     }
-    let backward = Backward::of(store);
-    found.insert(subject);
-    let mut visited = NodeSet::NONE;
-    while let Some(node) = found.first_outside(&visited) {
-        visited.insert(node);
-        found.extend(backward.sources(node));
+}
+
+// Marks the nodes of the set.
+fn mark_all(nodes: &NodeSet, marks: &mut [bool; 256], waiting: &mut Stack<u16>)
+    requires room { length (entries waiting.old.slots.now waiting.old.len) + unmarked marks.old ≤ length waiting.old.slots.now }
+    ensures change { Grown (Has nodes.now) marks.old (entries waiting.old.slots.now waiting.old.len) marks.new (entries waiting.new.slots.now waiting.new.len) }
+    ensures made { (n : ℕ) → n < 256 → Has nodes.now n → marked marks.new n ≡ true }
+    ensures kept { length waiting.new.slots.now ≡ length waiting.old.slots.now }
+{
+    for node in 0..256 {
+        if nodes.contains(node) {
+            mark(node, marks, waiting);
+        }
     }
-    found
 }
 
 // Marks the nodes from which triples lead to the subject, itself included, and no others; none, where the store has no such node.
@@ -32,8 +44,15 @@ pub fn upstream<S: Store>(store: &S, subject: u16, marks: &mut [bool; 256])
     ensures { (passes : ℕ → ℕ → Bool) (n : ℕ) → Decides (slice_index_or marks.new n false) ((subject < S.Store.nodes store.now) × Reaches (graph_of (S.Store.nodes store.now) (S.Store.arcs store.now) passes) subject n) }
 {
     store.lawful();
-    let found = reaching(store, subject);
-    for (node, mark) in marks.iter_mut().enumerate() {
-        *mark = found.contains(node as u16);
+    *marks = [false; 256];
+    if subject >= store.node_count() {
+        return;
+    }
+    let backward = Backward::of(store);
+    let mut slots = [0; 256];
+    let mut waiting = Stack::over(&mut slots);
+    mark(subject, marks, &mut waiting);
+    while let Some(node) = waiting.pop() {
+        mark_all(backward.sources(node), marks, &mut waiting);
     }
 }

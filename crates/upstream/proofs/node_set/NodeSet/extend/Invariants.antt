@@ -1,6 +1,0 @@
-use Rattle.std.proofs.Common.{ℕ, ◌/◌, ◌<◌, ◌⊎◌, ◌↔◌}
-use Rattle.upstream.specs.Nodes.{Has}
-use Rattle.upstream.proofs.node_set.NodeSet.extend.Given as goal
-
-abbrev pub invariant-loop-place : goal.invariant-loop-place
-invariant-loop-place l = (n : ℕ) → Has l.self n ↔ (Has l.initial.self n ⊎ ((n / 64 < l.place) × Has l.other n))
