@@ -1,6 +1,6 @@
 // The rules of a store, read once more: a list of triples, searched from the front.
 use std::alloc::{AllocError, Global};
-use triple::Triple;
+use triple::{StoreFault, Triple};
 
 #[derive(Drop)]
 pub(crate) struct Model {
@@ -19,62 +19,45 @@ impl Model {
     }
 
     pub(crate) fn has(&self, triple: Triple) -> bool {
-        for t in self.triples.as_slice() {
-            if *t == triple {
-                return true;
-            }
-        }
-        false
+        self.triples.contains(&triple)
     }
 
     pub(crate) fn fan(&self, node: u16) -> usize {
-        let mut fan = 0usize;
-        for t in self.triples.as_slice() {
-            if t.subject == node {
-                fan = fan.saturating_add(1);
-            }
-        }
-        fan
+        self.triples.iter().filter(|t| t.subject == node).count()
     }
 
-    // The number of the refusal, or 0.
-    pub(crate) fn put(&mut self, triple: Triple) -> Result<u8, AllocError> {
+    // What a store answers to the put.
+    pub(crate) fn put(&mut self, triple: Triple) -> Result<Result<(), StoreFault>, AllocError> {
         if triple.subject >= self.nodes {
-            return Ok(7);
+            return Ok(Err(StoreFault::NoSubject));
         }
         if triple.object >= self.nodes {
-            return Ok(8);
+            return Ok(Err(StoreFault::NoObject));
         }
         if self.has(triple) {
-            return Ok(10);
+            return Ok(Err(StoreFault::Present));
         }
         if self.fan(triple.subject) == 12 {
-            return Ok(11);
+            return Ok(Err(StoreFault::FullNode));
         }
         if self.triples.len() == self.capacity {
-            return Ok(12);
+            return Ok(Err(StoreFault::FullStore));
         }
         self.triples.push(triple)?;
-        Ok(0)
+        Ok(Ok(()))
     }
 
-    pub(crate) fn take(&mut self, heap: Global, triple: Triple) -> Result<u8, AllocError> {
+    pub(crate) fn take(&mut self, triple: Triple) -> Result<(), StoreFault> {
         if triple.subject >= self.nodes {
-            return Ok(7);
+            return Err(StoreFault::NoSubject);
         }
         if triple.object >= self.nodes {
-            return Ok(8);
+            return Err(StoreFault::NoObject);
         }
         if !self.has(triple) {
-            return Ok(13);
+            return Err(StoreFault::Absent);
         }
-        let mut rest = Vec::new(heap);
-        for t in self.triples.as_slice() {
-            if *t != triple {
-                rest.push(*t)?;
-            }
-        }
-        self.triples = rest;
-        Ok(0)
+        self.triples.retain(|t| *t != triple);
+        Ok(())
     }
 }

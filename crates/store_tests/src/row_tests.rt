@@ -2,23 +2,15 @@
 ghost use Rattle.std.specs.Prelude.{◌≡◌, drop};
 
 use crate::model::Model;
-use crate::runs::{alike, number, wander};
+use crate::runs::{alike, fill_node, puts, t, takes, wander};
 use chain::ChainStore;
-use rows::{Row, RowStore};
+use rows::RowStore;
 use std::process::Abort;
 use std::test::Fail;
-use triple::{Store, Triple};
-
-fn t(subject: u16, property: u8, object: u16) -> Triple {
-    Triple {
-        subject,
-        property,
-        object,
-    }
-}
+use triple::{Store, StoreFault, Triple};
 
 // The caller has its slice back, and the rows past 1,024 are as they were.
-fn stays(rows: &mut [Row], triple: Triple)
+fn stays(rows: &mut [Option<Triple>], triple: Triple)
     ensures { drop 1024 rows.new ≡ drop 1024 rows.old }
 {
     let mut store = RowStore::new(rows, 4);
@@ -31,18 +23,18 @@ fn nth(i: u16) -> Triple {
     t(i / 12, (i % 12) as u8, i % 256)
 }
 
-fn fills(rt: &impl Abort, rows: &mut [Row], capacity: u16) {
+fn fills(rt: &impl Abort, rows: &mut [Option<Triple>], capacity: u16) {
     let mut store = RowStore::new(rows, 256);
     assert_eq!(rt; store.capacity(), capacity);
     assert_eq!(rt; store.total(), 0);
     for i in 0..capacity {
-        assert_eq!(rt; number(store.put(nth(i))), 0);
+        assert_eq!(rt; store.put(nth(i)), Ok(()));
     }
-    assert_eq!(rt; number(store.put(t(255, 0, 0))), 12);
+    assert_eq!(rt; store.put(t(255, 0, 0)), Err(StoreFault::FullStore));
     assert_eq!(rt; store.total(), capacity);
     for i in 0..capacity {
-        assert_eq!(rt; number(store.take(nth(i))), 0);
-        assert_eq!(rt; number(store.take(nth(i))), 13);
+        assert_eq!(rt; store.take(nth(i)), Ok(()));
+        assert_eq!(rt; store.take(nth(i)), Err(StoreFault::Absent));
     }
     assert_eq!(rt; store.total(), 0);
 }
@@ -50,43 +42,32 @@ fn fills(rt: &impl Abort, rows: &mut [Row], capacity: u16) {
 #[test]
 fn lengths(rt: HostRuntime) {
     fills(&rt, &mut [], 0);
-    let mut one = [Row::FREE; 1];
+    let mut one = [None; 1];
     fills(&rt, &mut one, 1);
-    let mut dozen = [Row::FREE; 12];
+    let mut dozen = [None; 12];
     fills(&rt, &mut dozen, 12);
-    let mut most = [Row::FREE; 1024];
+    let mut most = [None; 1024];
     fills(&rt, &mut most, 1024);
 }
 
 #[test]
 fn later_rows(rt: HostRuntime) {
-    let mut rows = [Row {
-        used: true,
-        triple: t(3, 7, 5),
-    }; 1030];
+    let mut rows = [Some(t(3, 7, 5)); 1030];
     fills(&rt, &mut rows, 1024);
     stays(&mut rows, t(0, 0, 1));
-    for (i, row) in rows.iter().enumerate() {
-        assert_eq!(rt; row.used, i >= 1024);
-        if row.used {
-            assert_eq!(rt; row.triple.subject, 3);
-            assert_eq!(rt; row.triple.property, 7);
-            assert_eq!(rt; row.triple.object, 5);
-        }
-    }
+    let (used, later) = rows.split_at(1024);
+    assert!(rt; used.iter().all(|row| row.is_none()));
+    assert!(rt; later.iter().all(|row| *row == Some(t(3, 7, 5))));
 }
 
 #[test]
 fn making(rt: HostRuntime) {
-    let mut rows = [Row {
-        used: true,
-        triple: t(0, 1, 2),
-    }; 4];
+    let mut rows = [Some(t(0, 1, 2)); 4];
     let mut store = RowStore::new(&mut rows, 300);
     assert_eq!(rt; store.node_count(), 256);
     assert_eq!(rt; store.fan(0), 0);
     assert!(rt; store.arc(0, 0).is_none());
-    assert_eq!(rt; number(store.put(t(255, 9, 255))), 0);
+    assert_eq!(rt; store.put(t(255, 9, 255)), Ok(()));
     assert_eq!(rt; store.arc(255, 0), Some((9, 255)));
     assert!(rt; store.arc(255, 1).is_none());
     assert_eq!(rt; store.fan(256), 0);
@@ -94,45 +75,50 @@ fn making(rt: HostRuntime) {
 
 #[test]
 fn refusals(rt: HostRuntime) {
-    let mut rows = [Row::FREE; 13];
+    let mut rows = [None; 13];
     let mut store = RowStore::new(&mut rows, 4);
-    for (s, p, o, refusal) in [(4, 0, 4, 7), (0, 0, 4, 8)] {
-        assert_eq!(rt; number(store.put(t(s, p, o))), refusal);
-        assert_eq!(rt; number(store.take(t(s, p, o))), refusal);
-    }
-    assert_eq!(rt; number(store.take(t(0, 0, 0))), 13);
-    for property in 0..12 {
-        assert_eq!(rt; number(store.put(t(1, property, 2))), 0);
-    }
+    let strange = [
+        (4, 0, 4, Err(StoreFault::NoSubject)),
+        (0, 0, 4, Err(StoreFault::NoObject)),
+    ];
+    puts(&rt, &mut store, &strange);
+    takes(&rt, &mut store, &strange);
+    takes(&rt, &mut store, &[(0, 0, 0, Err(StoreFault::Absent))]);
+    fill_node(&rt, &mut store, 1, 2);
     // a full node, then a full store
-    for (s, p, o, refusal) in [
-        (1, 3, 2, 10),
-        (1, 3, 3, 11),
-        (2, 3, 3, 0),
-        (2, 3, 3, 10),
-        (1, 3, 3, 11),
-        (2, 3, 1, 12),
-    ] {
-        assert_eq!(rt; number(store.put(t(s, p, o))), refusal);
-    }
-    assert_eq!(rt; number(store.take(t(1, 3, 3))), 13);
-    assert_eq!(rt; number(store.take(t(1, 3, 2))), 0);
+    puts(
+        &rt,
+        &mut store,
+        &[
+            (1, 3, 2, Err(StoreFault::Present)),
+            (1, 3, 3, Err(StoreFault::FullNode)),
+            (2, 3, 3, Ok(())),
+            (2, 3, 3, Err(StoreFault::Present)),
+            (1, 3, 3, Err(StoreFault::FullNode)),
+            (2, 3, 1, Err(StoreFault::FullStore)),
+        ],
+    );
+    takes(
+        &rt,
+        &mut store,
+        &[(1, 3, 3, Err(StoreFault::Absent)), (1, 3, 2, Ok(()))],
+    );
     assert_eq!(rt; store.fan(1), 11);
-    assert_eq!(rt; number(store.put(t(2, 3, 1))), 0);
+    puts(&rt, &mut store, &[(2, 3, 1, Ok(()))]);
 }
 
 #[test]
 fn wanders(rt: HostRuntime) -> Result<(), Fail> {
-    let mut rows = [Row::FREE; 40];
+    let mut rows = [None; 40];
     let mut store = RowStore::new(&mut rows, 5);
     let mut model = Model::new(rt.alloc(), 5, 40);
-    wander(&rt, rt.alloc(), &mut store, &mut model, 20000, 5)
+    wander(&rt, &mut store, &mut model, 20000, 5)
 }
 
 #[test]
 fn both_kinds(rt: HostRuntime) {
     let mut chain = ChainStore::new(70);
-    let mut rows = [Row::FREE; 512];
+    let mut rows = [None; 512];
     let mut store = RowStore::new(&mut rows, 70);
     alike(&rt, &mut chain, &mut store, 72, 20000);
 }

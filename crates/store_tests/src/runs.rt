@@ -1,28 +1,43 @@
-// Runs of calls on a store and on the model beside it.
+// Runs of calls on a store, and on the model beside it.
 use crate::model::Model;
-use std::alloc::Global;
-use refusal::Fault;
 use std::process::Abort;
 use std::test::Fail;
 use triple::{Store, StoreFault, Triple};
 
-pub(crate) fn number(res: Result<(), StoreFault>) -> u8 {
-    match res {
-        Ok(()) => 0,
-        Err(fault) => fault.number(),
+pub(crate) fn t(subject: u16, property: u8, object: u16) -> Triple {
+    Triple {
+        subject,
+        property,
+        object,
+    }
+}
+
+// A call of a table: its subject, its property, its object, and what it answers.
+pub(crate) type Call = (u16, u8, u16, Result<(), StoreFault>);
+
+pub(crate) fn puts<S: Store>(rt: &impl Abort, store: &mut S, calls: &[Call]) {
+    for &(s, p, o, answer) in calls {
+        assert_eq!(rt; store.put(t(s, p, o)), answer);
+    }
+}
+
+pub(crate) fn takes<S: Store>(rt: &impl Abort, store: &mut S, calls: &[Call]) {
+    for &(s, p, o, answer) in calls {
+        assert_eq!(rt; store.take(t(s, p, o)), answer);
+    }
+}
+
+// The subject s with all the properties from 0 to 11, each to the node o.
+pub(crate) fn fill_node<S: Store>(rt: &impl Abort, store: &mut S, s: u16, o: u16) {
+    for property in 0..12 {
+        assert_eq!(rt; store.put(t(s, property, o)), Ok(()));
     }
 }
 
 // Whether the store has the triple, by its questions alone.
 fn found<S: Store>(store: &S, triple: Triple) -> bool {
-    for place in 0..store.fan(triple.subject) {
-        if let Some((property, object)) = store.arc(triple.subject, place) {
-            if property == triple.property && object == triple.object {
-                return true;
-            }
-        }
-    }
-    false
+    (0..store.fan(triple.subject)).any(|place| store.arc(triple.subject, place)
+        == Some((triple.property, triple.object)))
 }
 
 // The store answers every question as the model does.
@@ -32,9 +47,7 @@ pub(crate) fn compare<S: Store>(rt: &impl Abort, store: &S, model: &Model) {
         assert_eq!(rt; usize::from(store.fan(node)), model.fan(node));
         assert!(rt; store.arc(node, store.fan(node)).is_none());
     }
-    for t in model.triples.as_slice() {
-        assert!(rt; found(store, *t));
-    }
+    assert!(rt; model.triples.iter().all(|triple| found(store, *triple)));
 }
 
 // A sequence of numbers that looks random.
@@ -49,7 +62,6 @@ fn pick(state: u32, below: u16) -> u16 {
 // Puts and takes of triples whose nodes are below `nodes` + 1, so that some are not in the store.
 pub(crate) fn wander<S: Store>(
     rt: &impl Abort,
-    heap: Global,
     store: &mut S,
     model: &mut Model,
     calls: u16,
@@ -62,17 +74,12 @@ pub(crate) fn wander<S: Store>(
         state = next(state);
         let property = (pick(state, properties) & 0xff) as u8;
         state = next(state);
-        let object = pick(state, nodes);
+        let triple = t(subject, property, pick(state, nodes));
         state = next(state);
-        let triple = Triple {
-            subject,
-            property,
-            object,
-        };
         if state >= 1_610_612_736 {
-            assert_eq!(rt; number(store.put(triple)), model.put(triple)?);
+            assert_eq!(rt; store.put(triple), model.put(triple)?);
         } else {
-            assert_eq!(rt; number(store.take(triple)), model.take(heap, triple)?);
+            assert_eq!(rt; store.take(triple), model.take(triple));
         }
         state = next(state);
     }
@@ -92,18 +99,13 @@ pub(crate) fn alike<A: Store, B: Store>(
     for _ in 0..calls {
         let subject = pick(state, nodes);
         state = next(state);
-        let object = pick(state, nodes);
         let property = (pick(state, 3) & 0xff) as u8;
+        let triple = t(subject, property, pick(state, nodes));
         state = next(state);
-        let triple = Triple {
-            subject,
-            property,
-            object,
-        };
         if state >= 1_342_177_280 {
-            assert_eq!(rt; number(a.put(triple)), number(b.put(triple)));
+            assert_eq!(rt; a.put(triple), b.put(triple));
         } else {
-            assert_eq!(rt; number(a.take(triple)), number(b.take(triple)));
+            assert_eq!(rt; a.take(triple), b.take(triple));
         }
         state = next(state);
         assert_eq!(rt; a.total(), b.total());
