@@ -1,5 +1,5 @@
 -- In lawful tables a row stands for its own case over what the rows that it names stand for. Assumes nothing.
-use Rattle.std.proofs.Common.{◌≡◌, ℕ, zero, suc, ◌<◌, true, List, length, get_or, refl, ap, ap₂, arith}
+use Rattle.std.proofs.Common.{◌≡◌, ℕ, zero, suc, ◌<◌, true, List, length, get_or, sym, refl, ap, ap₂, ◌∙◌, arith}
 use Rattle.std.proofs.lemmas.Bool.{and_parts, ltb-true}
 use Rattle.shapes.specs.Expr.{Triple, each, some, times, Shape, and, or, not}
 use Rattle.draft.specs.Lawful.{Unfolds}
@@ -32,36 +32,35 @@ shape_same n r t f g (Or a b) e h =
     let p = and_parts _ _ e in ap₂ or (h a (ltb-true _ _ p.0)) (h b (ltb-true _ _ p.1))
 shape_same n r t f g (Not a) e h = ap not (h a (ltb-true _ _ e))
 
-module _ (s l : ℕ) (rows : List TripleRow) (ok : (r : ℕ) → r < length rows → triple_names s l r (get_or rows r Empty) ≡ true) where
-  triple_enough : (m n r : ℕ) → r < length rows → r < m → r < n → triple_within rows m r ≡ triple_within rows n r
-  unfolding triple_within
-  triple_enough zero n r h p q = absurd (omega arith)
-  triple_enough (suc m) zero r h p q = absurd (omega arith)
-  triple_enough (suc m) (suc n) r h p q =
-      triple_same s l r (triple_within rows m) (triple_within rows n) (get_or rows r Empty) (ok r h)
-      (λ a i. triple_enough m n a (omega arith) (omega arith) (omega arith))
+-- trees of rows, where each row is the same over trees that agree below it: r + 1 steps down from the row r are enough
+module _ {R T : Type 0} (node : (ℕ → T) → R → T) (row : ℕ → R) (n : ℕ) (within : ℕ → ℕ → T)
+    (step : (m r : ℕ) → within (suc m) r ≡ node (within m) (row r))
+    (same : (r : ℕ) (f g : ℕ → T) → r < n → ((a : ℕ) → a < r → f a ≡ g a) → node f (row r) ≡ node g (row r)) where
+  enough : (m k r : ℕ) → r < n → r < m → r < k → within m r ≡ within k r
+  enough zero k r h p q = absurd (omega arith)
+  enough (suc m) zero r h p q = absurd (omega arith)
+  enough (suc m) (suc k) r h p q =
+      step m r ∙ same r (within m) (within k) h (λ a i. enough m k a (omega arith) (omega arith) (omega arith)) ∙ sym (step k r)
 
+  one_step : (r : ℕ) → r < n → within (suc r) r ≡ node (λ a. within (suc a) a) (row r)
+  one_step r h =
+      step r r
+      ∙ same r (within r) (λ a. within (suc a) a) h (λ a i. enough r (suc a) a (omega arith) (omega arith) (omega arith))
+
+module _ (s l : ℕ) (rows : List TripleRow) (ok : (r : ℕ) → r < length rows → triple_names s l r (get_or rows r Empty) ≡ true) where
   pub triple_unfold : (r : ℕ) → r < length rows → triple_tree rows r ≡ triple_node (triple_tree rows) (get_or rows r Empty)
   unfolding triple_within
-  triple_unfold r h =
-      triple_same s l r (triple_within rows r) (triple_tree rows) (get_or rows r Empty) (ok r h)
-      (λ a i. triple_enough r (suc a) a (omega arith) (omega arith) (omega arith))
+  triple_unfold =
+      one_step triple_node (λ r. get_or rows r Empty) (length rows) (triple_within rows) (λ m r. refl)
+      (λ r f g h. triple_same s l r f g (get_or rows r Empty) (ok r h))
 
 module _ (n : ℕ) (ts : List TripleRow) (rows : List ShapeRow) (ok : (r : ℕ) → r < length rows → shape_names n r (get_or rows r (Value 0)) ≡ true) where
-  shape_enough : (m k r : ℕ) → r < length rows → r < m → r < k → shape_within ts rows m r ≡ shape_within ts rows k r
-  unfolding shape_within
-  shape_enough zero k r h p q = absurd (omega arith)
-  shape_enough (suc m) zero r h p q = absurd (omega arith)
-  shape_enough (suc m) (suc k) r h p q =
-      shape_same n r (triple_tree ts) (shape_within ts rows m) (shape_within ts rows k) (get_or rows r (Value 0)) (ok r h)
-      (λ a i. shape_enough m k a (omega arith) (omega arith) (omega arith))
-
   pub shape_unfold : (r : ℕ) → r < length rows
       → shape_tree ts rows r ≡ shape_node (triple_tree ts) (shape_tree ts rows) (get_or rows r (Value 0))
   unfolding shape_within
-  shape_unfold r h =
-      shape_same n r (triple_tree ts) (shape_within ts rows r) (shape_tree ts rows) (get_or rows r (Value 0)) (ok r h)
-      (λ a i. shape_enough r (suc a) a (omega arith) (omega arith) (omega arith))
+  shape_unfold =
+      one_step (shape_node (triple_tree ts)) (λ r. get_or rows r (Value 0)) (length rows) (shape_within ts rows) (λ m r. refl)
+      (λ r f g h. shape_same n r (triple_tree ts) f g (get_or rows r (Value 0)) (ok r h))
 
 pub unfolds : Unfolds
 unfolds t e =

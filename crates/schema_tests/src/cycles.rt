@@ -22,13 +22,24 @@ fn mutual_negation(rt: HostRuntime) {
         ShapeRow::Not(2),
         ShapeRow::Value(0),
     ];
-    assert_eq!(rt; answer_over_arcs(&[1, 3, 4], &shapes), Err(SchemaFault::Negation(0, 1)));
+    assert_eq!(rt;
+        answer_over_arcs(&[1, 3, 4], &shapes),
+        Err(SchemaFault::Negation(0, 1))
+    );
 }
 
 #[test]
 fn negation_twice_is_negation(rt: HostRuntime) {
     let shapes = [ShapeRow::Hood(0), ShapeRow::Not(0), ShapeRow::Not(1)];
-    assert_eq!(rt; answer(&[2], &shapes, &[TripleRow::Arc(0, 0)], &[PropertySet::EMPTY]), Err(SchemaFault::Negation(0, 0)));
+    assert_eq!(rt;
+        answer(
+            &[2],
+            &shapes,
+            &[TripleRow::Arc(0, 0)],
+            &[PropertySet::EMPTY]
+        ),
+        Err(SchemaFault::Negation(0, 0))
+    );
 }
 
 #[test]
@@ -65,7 +76,10 @@ fn negation_with_a_positive_way_back(rt: HostRuntime) {
         ShapeRow::Value(0),
         ShapeRow::Hood(0),
     ];
-    assert_eq!(rt; answer_over_arcs(&[2, 1, 4], &shapes), Err(SchemaFault::Negation(1, 2)));
+    assert_eq!(rt;
+        answer_over_arcs(&[2, 1, 4], &shapes),
+        Err(SchemaFault::Negation(1, 2))
+    );
 }
 
 #[test]
@@ -76,7 +90,10 @@ fn one_negated_way_down_is_enough(rt: HostRuntime) {
         ShapeRow::Or(0, 1),
         ShapeRow::Value(0),
     ];
-    assert_eq!(rt; answer_over_arcs(&[2, 3, 3], &shapes), Err(SchemaFault::Negation(0, 0)));
+    assert_eq!(rt;
+        answer_over_arcs(&[2, 3, 3], &shapes),
+        Err(SchemaFault::Negation(0, 0))
+    );
 }
 
 #[test]
@@ -88,8 +105,14 @@ fn the_lowest_labels_are_named(rt: HostRuntime) {
         ShapeRow::Not(2),
         ShapeRow::Value(0),
     ];
-    assert_eq!(rt; answer_over_arcs(&[4, 3, 3], &shapes), Err(SchemaFault::Negation(1, 1)));
-    assert_eq!(rt; answer_over_arcs(&[4, 4, 3], &shapes), Err(SchemaFault::Negation(2, 2)));
+    assert_eq!(rt;
+        answer_over_arcs(&[4, 3, 3], &shapes),
+        Err(SchemaFault::Negation(1, 1))
+    );
+    assert_eq!(rt;
+        answer_over_arcs(&[4, 4, 3], &shapes),
+        Err(SchemaFault::Negation(2, 2))
+    );
 }
 
 #[test]
@@ -102,7 +125,10 @@ fn unused_rows_never_refer(rt: HostRuntime) {
 fn bounds_before_negation(rt: HostRuntime) {
     let shapes = [ShapeRow::Hood(0), ShapeRow::Not(0)];
     let triples = [TripleRow::Arc(0, 0), TripleRow::Times(0, 2, Some(1))];
-    assert_eq!(rt; answer(&[1], &shapes, &triples, &[PropertySet::EMPTY]), Err(SchemaFault::Bounds(1)));
+    assert_eq!(rt;
+        answer(&[1], &shapes, &triples, &[PropertySet::EMPTY]),
+        Err(SchemaFault::Bounds(1))
+    );
 }
 
 // An arc that no repeat ever uses still refers.
@@ -110,7 +136,10 @@ fn bounds_before_negation(rt: HostRuntime) {
 fn an_arc_repeated_never(rt: HostRuntime) {
     let shapes = [ShapeRow::Hood(1), ShapeRow::Not(0)];
     let triples = [TripleRow::Arc(0, 0), TripleRow::Times(0, 0, Some(0))];
-    assert_eq!(rt; answer(&[1], &shapes, &triples, &[PropertySet::EMPTY]), Err(SchemaFault::Negation(0, 0)));
+    assert_eq!(rt;
+        answer(&[1], &shapes, &triples, &[PropertySet::EMPTY]),
+        Err(SchemaFault::Negation(0, 0))
+    );
 }
 
 // Each row names the row before it twice: its expression has 2^100 arcs, and the rows are visited once each.
@@ -123,5 +152,8 @@ fn a_tower_of_shared_rows(rt: HostRuntime) {
     let shapes = [ShapeRow::Hood(100), ShapeRow::Not(0)];
     let sets = [PropertySet::EMPTY];
     assert_eq!(rt; answer(&[0], &shapes, &triples, &sets), Ok(()));
-    assert_eq!(rt; answer(&[1], &shapes, &triples, &sets), Err(SchemaFault::Negation(0, 0)));
+    assert_eq!(rt;
+        answer(&[1], &shapes, &triples, &sets),
+        Err(SchemaFault::Negation(0, 0))
+    );
 }

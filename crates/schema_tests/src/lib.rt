@@ -11,3 +11,5 @@ mod refusals;
 mod schemas;
 #[cfg(test)]
 mod sets;
+#[cfg(test)]
+mod texts;

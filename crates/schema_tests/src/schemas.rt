@@ -47,9 +47,18 @@ fn a_schema_is_small(rt: HostRuntime) {
 fn questions(rt: HostRuntime) {
     let schema = small();
     assert_eq!(rt; schema.label_count(), 2);
-    assert_eq!(rt; [schema.definition(0), schema.definition(2)], [Some(4), None]);
-    assert_eq!(rt; [schema.shape(4), schema.shape(5)], [Some(ShapeRow::And(2, 3)), None]);
-    assert_eq!(rt; [schema.triple(0), schema.triple(2)], [Some(TripleRow::Arc(1, 1)), None]);
+    assert_eq!(rt;
+        [schema.definition(0), schema.definition(2)],
+        [Some(4), None]
+    );
+    assert_eq!(rt;
+        [schema.shape(4), schema.shape(5)],
+        [Some(ShapeRow::And(2, 3)), None]
+    );
+    assert_eq!(rt;
+        [schema.triple(0), schema.triple(2)],
+        [Some(TripleRow::Arc(1, 1)), None]
+    );
     assert!(rt;
         schema.contains(0, 1)
             && schema.contains(1, 194)
@@ -112,5 +121,4 @@ fn a_refused_draft_leaves_the_place(rt: HostRuntime) {
     assert_eq!(rt; schema.accept(&other), Ok(()));
     assert_eq!(rt; schema.label_count(), 1);
     assert!(rt; !schema.contains(0, 1));
-
 }

@@ -3,6 +3,7 @@
 
 #[cfg(test)]
 mod tests {
+    use std::process::Abort;
     use values::{AnswerSheet, Term, TermKind, TermTable, Test, ValueTest};
 
     const TERMS: [Term; 9] = [
