@@ -1,8 +1,7 @@
 -- A table in which the row of one node lost pairs.
-use Rattle.std.proofs.Common.{◌≡◌, ℕ, ◌+◌, ◌-◌, ◌*◌, ◌<◌, ◌≤◌, ◌&&◌, not, Bool, true, false, cond, eqb, suc, zero, ◌⊎◌, List, [], ◌∷◌, length, ◌++◌, get_or, take, drop, sum, sym, ap, ◌∙◌, subst, inl, inr, arith}
-use native.Mathlib.Decide.{dec_lt}
+use Rattle.std.proofs.Common.{◌≡◌, ℕ, ◌+◌, ◌-◌, ◌*◌, ◌<◌, ◌≤◌, ◌&&◌, not, Bool, true, false, cond, eqb, suc, zero, ◌⊎◌, List, [], ◌∷◌, length, ◌++◌, get_or, take, drop, sum, ap, ◌∙◌, inl, inr, ⊎_elim, arith}
 use borrow.Rule.Slice.PartMut.{put_mid, post_of}
-use Rattle.std.proofs.lemmas.Bool.{and_parts, and_from, both_ways, cases_Bool, cond-true, cond-false, eqb-true, eq-eqb, false_from_ne_true, true_from_ne_false, not_from_true, not_from_false}
+use Rattle.std.proofs.lemmas.Bool.{and_parts, and_from, both_ways, cases_Bool, cases_lt, cond-true, cond-false, eqb-true, eq-eqb, false_from_ne_true, true_from_ne_false, not_from_true, not_from_false}
 use Rattle.std.proofs.lemmas.List.{get_or-take, get_or-drop, get_or-append_right, length-take-le, take-append-drop}
 use Rattle.std.proofs.lemmas.List.Sums.{sum_by-cons}
 use Rattle.std.proofs.Math.ListN.{get_or-append}
@@ -73,54 +72,40 @@ module _ (due : Due) (o : ℕ) (found : List Bool) (x row : List ℕ) (any : Boo
       let q = and_parts (is_due due (o * due.labels + l)) (not (has_label found l)) p.1 in
       (eqb-true _ 1 p.0, q.0, false_from_ne_true (has_label found l) (λ t. both_ways (not (has_label found l)) (not_from_true _ t) q.1))
 
-  change_at : (l : ℕ) → l < n → (get_or y (a + l) 0 ≡ get_or x (a + l) 0) ⊎ Taken due due.labels o found x y (a + l)
-  change_at l h = pick (cases_Bool (is l))
-    where
-      pick : (is l ≡ true) ⊎ (is l ≡ false) → (get_or y (a + l) 0 ≡ get_or x (a + l) 0) ⊎ Taken due due.labels o found x y (a + l)
-      pick (inr e) = inl (y_at l h ∙ cond-false (is l) 0 (get_or (take n (drop a x)) l 0) e ∙ get_or-mid x a n l h)
-      pick (inl e) =
-          let p = cleared_parts l e in
-          inr (record {
-            label = l;
-            bound = omega arith;
-            at = omega arith;
-            is_due = ap (λ a. is_due due (a + l)) start ∙ p.1;
-            not_found = p.2;
-            after = y_at l h ∙ cond-true (is l) 0 (get_or (take n (drop a x)) l 0) e;
-          })
+  change_at : (l : ℕ) → l < n → (is l ≡ true) ⊎ (is l ≡ false) → (get_or y (a + l) 0 ≡ get_or x (a + l) 0) ⊎ Taken due due.labels o found x y (a + l)
+  change_at l h (inr e) = inl (y_at l h ∙ cond-false (is l) 0 (get_or (take n (drop a x)) l 0) e ∙ get_or-mid x a n l h)
+  change_at l h (inl e) =
+      let p = cleared_parts l e in
+      inr (record {
+        label = l;
+        bound = omega arith;
+        at = omega arith;
+        is_due = ap (λ a. is_due due (a + l)) start ∙ p.1;
+        not_found = p.2;
+        after = y_at l h ∙ cond-true (is l) 0 (get_or (take n (drop a x)) l 0) e;
+      })
 
-  change : (k : ℕ) → (get_or y k 0 ≡ get_or x k 0) ⊎ Taken due due.labels o found x y k
-  change k = pick (dec_lt k a) (dec_lt k (a + n))
-    where
-      pick : Dec (k < a) → Dec (k < a + n) → (get_or y k 0 ≡ get_or x k 0) ⊎ Taken due due.labels o found x y k
-      pick (yes h) _ = inl (put_before x row a n long same k h)
-      pick (no h) (no g) = inl (put_past x row a n long same k (omega arith))
-      pick (no h) (yes g) =
-          let e : a + (k - a) ≡ k = omega arith in
-          subst (λ k. (get_or y k 0 ≡ get_or x k 0) ⊎ Taken due due.labels o found x y k) e (change_at (k - a) (omega arith))
-
-  less : (k : ℕ) → (get_or y k 0 ≡ get_or x k 0) ⊎ Taken due due.labels o found x y k → get_or y k 0 ≤ get_or x k 0
-  less k (inl e) = omega arith
-  less k (inr t) = omega (arith, t.after)
+  change : (k : ℕ) → (k < a) ⊎ (a ≤ k) → (k < a + n) ⊎ (a + n ≤ k) → (get_or y k 0 ≡ get_or x k 0) ⊎ Taken due due.labels o found x y k
+  change k (inl h) _ = inl (put_before x row a n long same k h)
+  change k (inr h) (inr g) = inl (put_past x row a n long same k g)
+  change k (inr h) (inl g) = let e : a + (k - a) ≡ k = omega arith in rw (← e) (change_at (k - a) (omega arith) (cases_Bool (is (k - a))))
 
   left : (l : ℕ) → l < due.labels → is_due due (o * due.labels + l) ≡ true → get_or y (o * due.labels + l) 0 ≡ 1 → has_label found l ≡ true
-  left l h d one = true_from_ne_false (has_label found l) (λ miss. pick miss (cases_Bool (is l)))
+  left l h d one = true_from_ne_false (has_label found l) (λ miss. at miss (cases_Bool (is l)))
     where
-      was : cond (is l) 0 (get_or (take n (drop a x)) l 0) ≡ 1
-      was = sym (y_at l (omega arith)) ∙ ap (λ b. get_or y (b + l) 0) start ∙ one
-
-      pick : has_label found l ≡ false → (is l ≡ true) ⊎ (is l ≡ false) → ⊥
-      pick miss (inl e) = omega (arith, was, cond-true (is l) 0 (get_or (take n (drop a x)) l 0) e)
-      pick miss (inr e) =
+      at : has_label found l ≡ false → (is l ≡ true) ⊎ (is l ≡ false) → ⊥
+      at miss (inl e) = omega (arith, one, ap (λ b. get_or y (b + l) 0) start, y_at l (omega arith), cond-true (is l) 0 (get_or (take n (drop a x)) l 0) e)
+      at miss (inr e) =
           both_ways (is l) e (and_from (eqb (get_or (take n (drop a x)) l 0) 1) (is_due due (o * due.labels + l) && not (has_label found l))
-          (eq-eqb _ 1 (sym (cond-false (is l) 0 (get_or (take n (drop a x)) l 0) e) ∙ was)) (and_from (is_due due (o * due.labels + l)) (not (has_label found l)) d (not_from_false _ miss)))
+          (eq-eqb _ 1 (omega (arith, one, ap (λ b. get_or y (b + l) 0) start, y_at l (omega arith), cond-false (is l) 0 (get_or (take n (drop a x)) l 0) e)))
+          (and_from (is_due due (o * due.labels + l)) (not (has_label found l)) d (not_from_false _ miss)))
 
   pub thinned : Thinned due due.labels o found x any y
   thinned =
       record {
-        change = change;
+        change = λ k. change k (cases_lt k a) (cases_lt k (a + n));
         left = left;
         same = λ e. ap (λ r. put_mid a n x r) (c.same e) ∙ ap (λ r. take a x ++ r) (take-append-drop n (drop a x)) ∙ take-append-drop a x;
-        fewer = λ e. let m = c.some e in sum_less x y (λ k. less k (change k)) (a + m.0)
+        fewer = λ e. let m = c.some e in sum_less x y (λ k. ⊎_elim (λ e. omega arith) (λ t. omega (arith, t.after)) (change k (cases_lt k a) (cases_lt k (a + n)))) (a + m.0)
             (omega (arith, y_at m.0 (omega (arith, m.1)), cond-true (is m.0) 0 (get_or (take n (drop a x)) m.0 0) m.2, (cleared_parts m.0 m.2).0, get_or-mid x a n m.0 (omega (arith, m.1))));
       }

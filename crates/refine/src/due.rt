@@ -4,12 +4,14 @@ ghost use Rattle.std.specs.Prelude.{ℕ, ◌*◌, ◌≤◌, length};
 use crate::write::write_where;
 use std::ops::Range;
 
-// The wanted pairs of the labels that have the stratum. Its slices are in rows: a stratum for each label, a byte for each pair of a node and a label.
+// The wanted pairs whose label has the stratum.
 #[derive(Drop)]
 pub(crate) struct Due<'a> {
     pub nodes: usize,
     pub labels: usize,
+    // The stratum of each label.
     pub strata: &'a [u8],
+    // A byte for each pair, in a row for each node: 1 where the pair is wanted.
     pub wanted: &'a [u8],
     pub stratum: u8,
     ghost few_nodes: { nodes ≤ 256 },

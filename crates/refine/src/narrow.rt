@@ -56,7 +56,7 @@ fn narrow_marked<C: NodeCheck>(
     ensures change { Passed (C.NodeCheck.schema check.old) (C.NodeCheck.graph check.old) due.now result marks.old marks.new typing.old typing.new (C.NodeCheck.graph check.old).nodes }
 {
     let mut cleared = false;
-    // No loop over the marks, since a node's check marks others.
+    // By number, not over the marks: the check of a node marks others.
     for node in 0..check.node_count() {
         if marks[usize::from(node)] {
             cleared |= narrow_node(check, due, node, marks, typing);
