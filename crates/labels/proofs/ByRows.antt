@@ -43,15 +43,19 @@ module _ {X : Type 0} (test : X → ℕ → Bool) (d : X) where
 pub below : (b x : Bool) (a n : ℕ) → a < n → b ≡ (ltb a n && x) → b ≡ x
 below b x a n h e = e ∙ ap (λ c. c && x) (lt-ltb a n h)
 
+-- two rows below r, in one of which the label stands
+either : (a b r : ℕ) (f g : ℕ → ℕ → Bool) → (ltb a r && ltb b r) ≡ true → ((i k : ℕ) → f i k ≡ (ltb i r && g i k))
+    → (k : ℕ) → (f a k || f b k) ≡ (g a k || g b k)
+either a b r f g e h k =
+    let p = and_parts _ _ e in ap₂ (λ x y. x || y) (below _ _ a r (ltb-true _ _ p.0) (h a k)) (below _ _ b r (ltb-true _ _ p.1) (h b k))
+
 module _ (has : ℕ → Bool) where
   arcs_node : (s l r : ℕ) (f : ℕ → ℕ → Bool) (tree : ℕ → Triple) (row : TripleRow) → triple_names s l r row ≡ true
       → ((a k : ℕ) → f a k ≡ (ltb a r && has_arc has (tree a) k)) → (k : ℕ) → arcs_by has f row k ≡ has_arc has (triple_node tree row) k
   arcs_node s l r f tree Empty e h k = refl
   arcs_node s l r f tree (Arc p n) e h k = refl
-  arcs_node s l r f tree (Each a b) e h k =
-      let p = and_parts _ _ e in ap₂ (λ x y. x || y) (below _ _ a r (ltb-true _ _ p.0) (h a k)) (below _ _ b r (ltb-true _ _ p.1) (h b k))
-  arcs_node s l r f tree (Some a b) e h k =
-      let p = and_parts _ _ e in ap₂ (λ x y. x || y) (below _ _ a r (ltb-true _ _ p.0) (h a k)) (below _ _ b r (ltb-true _ _ p.1) (h b k))
+  arcs_node s l r f tree (Each a b) e h k = either a b r f (λ i. has_arc has (tree i)) e h k
+  arcs_node s l r f tree (Some a b) e h k = either a b r f (λ i. has_arc has (tree i)) e h k
   arcs_node s l r f tree (Times a least most) e h k = below _ _ a r (ltb-true _ _ e) (h a k)
 
   pub arcs_row : (s l : ℕ) (rows : List TripleRow) → ((r : ℕ) → r < length rows → triple_names s l r (get_or rows r Empty) ≡ true)
@@ -66,10 +70,8 @@ module _ (has : ℕ → Bool) where
       → (k : ℕ) → mentions_by arcs f row k ≡ mentions has (shape_node triple tree row) k
   mentions_node n r arcs f triple tree (Value t) e i h k = refl
   mentions_node n r arcs f triple tree (Hood a) e i h k = below _ _ a n (ltb-true _ _ e) (i a k)
-  mentions_node n r arcs f triple tree (And a b) e i h k =
-      let p = and_parts _ _ e in ap₂ (λ x y. x || y) (below _ _ a r (ltb-true _ _ p.0) (h a k)) (below _ _ b r (ltb-true _ _ p.1) (h b k))
-  mentions_node n r arcs f triple tree (Or a b) e i h k =
-      let p = and_parts _ _ e in ap₂ (λ x y. x || y) (below _ _ a r (ltb-true _ _ p.0) (h a k)) (below _ _ b r (ltb-true _ _ p.1) (h b k))
+  mentions_node n r arcs f triple tree (And a b) e i h k = either a b r f (λ i. mentions has (tree i)) e h k
+  mentions_node n r arcs f triple tree (Or a b) e i h k = either a b r f (λ i. mentions has (tree i)) e h k
   mentions_node n r arcs f triple tree (Not a) e i h k = below _ _ a r (ltb-true _ _ e) (h a k)
 
   negates_node : (n r : ℕ) (m f : ℕ → ℕ → Bool) (triple : ℕ → Triple) (tree : ℕ → Shape) (row : ShapeRow) → shape_names n r row ≡ true
@@ -77,10 +79,8 @@ module _ (has : ℕ → Bool) where
       → (k : ℕ) → negates_by m f row k ≡ negates has (shape_node triple tree row) k
   negates_node n r m f triple tree (Value t) e i h k = refl
   negates_node n r m f triple tree (Hood a) e i h k = refl
-  negates_node n r m f triple tree (And a b) e i h k =
-      let p = and_parts _ _ e in ap₂ (λ x y. x || y) (below _ _ a r (ltb-true _ _ p.0) (h a k)) (below _ _ b r (ltb-true _ _ p.1) (h b k))
-  negates_node n r m f triple tree (Or a b) e i h k =
-      let p = and_parts _ _ e in ap₂ (λ x y. x || y) (below _ _ a r (ltb-true _ _ p.0) (h a k)) (below _ _ b r (ltb-true _ _ p.1) (h b k))
+  negates_node n r m f triple tree (And a b) e i h k = either a b r f (λ i. negates has (tree i)) e h k
+  negates_node n r m f triple tree (Or a b) e i h k = either a b r f (λ i. negates has (tree i)) e h k
   negates_node n r m f triple tree (Not a) e i h k = below _ _ a r (ltb-true _ _ e) (i a k)
 
   module _ (ts : List TripleRow) (rows : List ShapeRow)

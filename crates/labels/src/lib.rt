@@ -7,4 +7,4 @@ mod mentions;
 
 pub use filter::{ArcFilter, EveryArc, WithProperty};
 pub use label_set::LabelSet;
-pub use mentions::{RowLabels, labels_of_definitions};
+pub use mentions::{RowLabels, labels_of_definition, labels_of_definitions};

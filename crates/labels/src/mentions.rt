@@ -116,6 +116,18 @@ fn labels_of_rows<F: ArcFilter>(tables: &LawfulTables, filter: &F) -> [RowLabels
     rows
 }
 
+// The labels of the ARCs in the label's definition that count; a label past the last has none.
+pub fn labels_of_definition<F: ArcFilter>(tables: &LawfulTables, label: u8, filter: &F) -> RowLabels
+    ensures mentioned { (k : ℕ) → member result.mentioned k ≡ (nat_lt label (schema_of (held tables.now)).labels && mentions (admitted (F.admits filter.now) (held tables.now).sets) ((schema_of (held tables.now)).definition label) k) }
+    ensures negated { (k : ℕ) → member result.negated k ≡ (nat_lt label (schema_of (held tables.now)).labels && negates (admitted (F.admits filter.now) (held tables.now).sets) ((schema_of (held tables.now)).definition label) k) }
+{
+    tables.lawful();
+    match tables.definitions().get(usize::from(label)) {
+        Some(row) => labels_of_rows(tables, filter)[usize::from(*row)],
+        None => RowLabels::NONE,
+    }
+}
+
 // For each label, the labels of the ARCs in its definition that count; labels past the last have none.
 pub fn labels_of_definitions<F: ArcFilter>(tables: &LawfulTables, filter: &F) -> [RowLabels; 32]
     ensures mentioned { (l k : ℕ) → mentioned_in result l k ≡ (nat_lt l (schema_of (held tables.now)).labels && mentions (admitted (F.admits filter.now) (held tables.now).sets) ((schema_of (held tables.now)).definition l) k) }

@@ -4,7 +4,7 @@ ghost use Rattle.shapes.proofs.Leaning.{admits};
 ghost use Rattle.labels.specs.Members.{member};
 ghost use Rattle.leaning.specs.Labels.{schema_in};
 
-use labels::{LabelSet, WithProperty, labels_of_definitions};
+use labels::{LabelSet, WithProperty, labels_of_definition};
 use tables::LawfulTables;
 
 // The labels of the ARCs in the label's definition whose set has the property.
@@ -12,7 +12,5 @@ pub(crate) fn admitted(tables: &LawfulTables, label: u8, property: u8) -> LabelS
     requires { label < (schema_in tables.now).labels }
     ensures { (k : ℕ) → member result k ≡ admits (schema_in tables.now).sets ((schema_in tables.now).definition label) property k }
 {
-    tables.lawful();
-    let admitting = labels_of_definitions(tables, &WithProperty(property));
-    admitting[usize::from(label)].mentioned
+    labels_of_definition(tables, label, &WithProperty(property)).mentioned
 }
