@@ -1,5 +1,5 @@
+pub mod Arcs
 pub mod Bit
 pub mod ByRows
 pub mod Marking
 pub mod Showing
-pub mod Arcs

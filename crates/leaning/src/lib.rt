@@ -2,8 +2,10 @@
 #![tactic(auto)]
 
 mod admitted;
+mod fault;
 mod label_set;
 mod pairs;
 mod search;
 
+pub use fault::ReachFault;
 pub use search::reach;
