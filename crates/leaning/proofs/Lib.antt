@@ -1,4 +1,4 @@
 pub mod Admitting
+pub mod Arcs
 pub mod Marking
 pub mod Showing
-pub mod Arcs

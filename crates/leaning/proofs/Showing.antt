@@ -1,71 +1,58 @@
 -- The bytes of pairs: what is shown when one is written. Assumes nothing.
-use Rattle.std.proofs.Common.{◌≡◌, ℕ, zero, suc, ◌+◌, ◌*◌, ◌/◌, ◌%◌, ◌<◌, ◌≤◌, true, false, cond, not, ◌&&◌, eqb, ltb, ◌⊎◌, List, [], ◌∷◌, length, get_or, take, set, count_by, sym, refl, ap, ◌∙◌, ap₂, inl, inr, ⊎_elim, arith, get_or-set_other, get_or-set_same}
-use Rattle.std.proofs.lemmas.Nat.{mul-add-lt, div-mul-add, mod-mul-add}
-use Rattle.std.proofs.lemmas.List.{length-take-le, get_or-take}
+use Rattle.std.proofs.Common.{◌≡◌, ℕ, ◌+◌, ◌*◌, ◌<◌, ◌≤◌, cond, not, ◌&&◌, eqb, ltb, ◌⊎◌, List, ◌++◌, length, get_or, take, drop, set, replicate, count_by, Decides, sym, ap, ◌∙◌, ap₂, inl, inr, ⊎_elim, arith, get_or-set_other, get_or-set_same}
+use Rattle.std.proofs.Math.ListN.{get_or-append}
+use Rattle.std.proofs.Math.Seq.{take-set-lt}
+use Rattle.std.proofs.lemmas.Nat.{mul-add-lt, same_from_place}
+use Rattle.std.proofs.lemmas.List.{length-take-le, get_or-take, get_or-replicate, length-replicate}
 use Rattle.std.proofs.lemmas.List.Sums.{sum_by-set}
-use Rattle.std.proofs.lemmas.Bool.{cases_eq, cases_Bool, and_parts, and_from, and_left, ltb-true, lt-ltb, eq-eqb, eqb-true, ne_eqb, leb-true}
+use Rattle.std.proofs.lemmas.Bool.{cases_eq, ne_eqb}
+use Rattle.std.proofs.lemmas.Bool.Decides.{Decides-and, Decides-ltb, Decides-eqb}
+use Rattle.std.proofs.lemmas.Slice.{drop-append-drop}
 use Rattle.stack.specs.declared.Goal.{Goal}
-use Rattle.shapes.specs.Bytes.{byte_typing}
-use Rattle.leaning.specs.Pairs.{accepted}
+use Rattle.shapes.specs.Bytes.{place, byte_typing}
 use Rattle.leaning.specs.Search.{unmarked, Marked}
 
-pub same_goal : (g h : Goal) → g.node ≡ h.node → g.label ≡ h.label → g ≡ h
-same_goal g h a b = ap₂ {C = Goal} (λ x y. record { node = x; label = y }) a b
-
-pub cases_goal : (g h : Goal) → (g ≡ h) ⊎ (g ≡ h → ⊥)
-cases_goal g h =
-    ⊎_elim
-    (λ (a : g.node ≡ h.node). ⊎_elim (λ (b : g.label ≡ h.label). inl (same_goal g h a b)) (λ (b : g.label ≡ h.label → ⊥). inr (λ e. b (ap (λ x. x.label) e))) (cases_eq g.label h.label))
-    (λ (a : g.node ≡ h.node → ⊥). inr (λ e. a (ap (λ x. x.node) e)))
-    (cases_eq g.node h.node)
-
-module _ (nodes labels : ℕ) (bytes : List ℕ) where
-  pub shown_within : (n l : ℕ) → byte_typing nodes labels bytes n l ≡ true → (n < nodes) × (l < labels) × (get_or bytes (n * labels + l) 0 ≡ 1)
-  shown_within n l h =
-      let p = and_parts _ _ h in
-      let q = and_parts _ _ p.0 in
-      (ltb-true n nodes q.0, ltb-true l labels q.1, eqb-true _ 1 p.1)
-
-  pub shown_from : (n l : ℕ) → n < nodes → l < labels → get_or bytes (n * labels + l) 0 ≡ 1 → byte_typing nodes labels bytes n l ≡ true
-  shown_from n l h k e = and_from _ _ (and_from _ _ (lt-ltb n nodes h) (lt-ltb l labels k)) (eq-eqb _ 1 e)
+module _ (nodes labels : ℕ) where
+  pub shown : (bytes : List ℕ) (g : Goal)
+      → Decides (byte_typing nodes labels bytes g.node g.label) (((g.node < nodes) × (g.label < labels)) × (get_or bytes (place labels g.node g.label) 0 ≡ 1))
+  shown bytes g =
+      Decides-and (ltb g.node nodes && ltb g.label labels) (eqb (get_or bytes (place labels g.node g.label) 0) 1)
+      (Decides-and (ltb g.node nodes) (ltb g.label labels) (Decides-ltb g.node nodes) (Decides-ltb g.label labels))
+      (Decides-eqb (get_or bytes (place labels g.node g.label) 0) 1)
 
   -- none is shown where the bytes are 0
-  pub shown_none : ((i : ℕ) → i < nodes * labels → get_or bytes i 0 ≡ 0) → (n l : ℕ) → byte_typing nodes labels bytes n l ≡ true → ⊥
-  shown_none z n l h =
-      let w = shown_within n l h in
-      let e = z (n * labels + l) (omega (arith, mul-add-lt n labels l nodes w.0 w.1)) in
-      let f = w.2 in omega arith
+  pub shown_none : (bytes : List ℕ) → ((i : ℕ) → i < nodes * labels → get_or bytes i 0 ≡ 0) → (g : Goal) → Marked (byte_typing nodes labels bytes) g → ⊥
+  shown_none bytes zero g m =
+      let w = (shown bytes g).0 m in
+      let e = zero (place labels g.node g.label) (omega (arith, mul-add-lt g.node labels g.label nodes w.0.0 w.0.1)) in
+      let f = w.1 in omega arith
 
-  -- the byte of one pair is written
-  module _ (pair : Goal) (hn : pair.node < nodes) (hl : pair.label < labels) (long : nodes * labels ≤ length bytes) where
-    pub place_below : pair.node * labels + pair.label < nodes * labels
-    place_below = omega (arith, mul-add-lt pair.node labels pair.label nodes hn hl)
+  -- the byte of a pair is written
+  module _ (bytes : List ℕ) (pair : Goal) (i : ℕ) (at : i ≡ place labels pair.node pair.label) (within : (pair.node < nodes) × (pair.label < labels)) (long : i < length bytes) where
+    pub shown_same : Marked (byte_typing nodes labels (set bytes i 1)) pair
+    shown_same = (shown (set bytes i 1) pair).1 (within, ap (λ k. get_or (set bytes i 1) k 0) (sym at) ∙ get_or-set_same bytes i 1 0 long)
 
-    pub shown_same : Marked (byte_typing nodes labels (set bytes (pair.node * labels + pair.label) 1)) pair
-    shown_same =
-        and_from _ _ (and_from _ _ (lt-ltb pair.node nodes hn) (lt-ltb pair.label labels hl))
-        (eq-eqb _ 1 (get_or-set_same bytes (pair.node * labels + pair.label) 1 0 (omega (arith, place_below))))
+    pub shown_kept : (g : Goal) → Marked (byte_typing nodes labels bytes) g → Marked (byte_typing nodes labels (set bytes i 1)) g
+    shown_kept g m =
+        let w = (shown bytes g).0 m in
+        (shown (set bytes i 1) g).1 (
+          w.0,
+          ⊎_elim
+              (λ (e : place labels g.node g.label ≡ i). ap (λ k. get_or (set bytes i 1) k 0) e ∙ get_or-set_same bytes i 1 0 long)
+              (λ (ne : place labels g.node g.label ≡ i → ⊥). get_or-set_other bytes i (place labels g.node g.label) 1 0 ne ∙ w.1)
+              (cases_eq (place labels g.node g.label) i),
+        )
 
-    apart : (g : Goal) → (g ≡ pair → ⊥) → g.label < labels → g.node * labels + g.label ≡ pair.node * labels + pair.label → ⊥
-    apart g ne h e =
-        ne (same_goal g pair
-        (sym (div-mul-add g.node labels g.label h) ∙ ap (λ x. x / labels) e ∙ div-mul-add pair.node labels pair.label hl)
-        (sym (mod-mul-add g.node labels g.label h) ∙ ap (λ x. x % labels) e ∙ mod-mul-add pair.node labels pair.label hl))
-
-    pub shown_other : (g : Goal) → (g ≡ pair → ⊥) → byte_typing nodes labels (set bytes (pair.node * labels + pair.label) 1) g.node g.label ≡ byte_typing nodes labels bytes g.node g.label
-    shown_other g ne =
+    pub shown_more : (g : Goal) → Marked (byte_typing nodes labels (set bytes i 1)) g → Marked (byte_typing nodes labels bytes) g ⊎ (g ≡ pair)
+    shown_more g m =
+        let w = (shown (set bytes i 1) g).0 m in
         ⊎_elim
-        (λ (h : (ltb g.node nodes && ltb g.label labels) ≡ true).
-        ap (λ v. (ltb g.node nodes && ltb g.label labels) && eqb v 1)
-        (get_or-set_other bytes (pair.node * labels + pair.label) (g.node * labels + g.label) 1 0 (apart g ne (ltb-true _ _ (and_parts _ _ h).1))))
-        (λ (h : (ltb g.node nodes && ltb g.label labels) ≡ false). and_left _ _ h ∙ sym (and_left _ _ h))
-        (cases_Bool (ltb g.node nodes && ltb g.label labels))
-
-pub take_set_lt : {A : Type 0} (n : ℕ) (xs : List A) (i : ℕ) (a : A) → i < n → take n (set xs i a) ≡ set (take n xs) i a
-take_set_lt zero xs i a h = absurd (omega arith)
-take_set_lt (suc n) [] i a h = refl
-take_set_lt (suc n) (x ∷ xs) zero a h = refl
-take_set_lt (suc n) (x ∷ xs) (suc i) a h = ap (λ ys. x ∷ ys) (take_set_lt n xs i a (omega arith))
+        (λ (e : place labels g.node g.label ≡ i).
+        let s = same_from_place g.node g.label pair.node pair.label labels w.0.1 within.1 (e ∙ at) in
+        inr (ap₂ {C = Goal} (λ x y. record { node = x; label = y }) s.0 s.1))
+        (λ (ne : place labels g.node g.label ≡ i → ⊥).
+        inl ((shown bytes g).1 (w.0, sym (get_or-set_other bytes i (place labels g.node g.label) 1 0 ne) ∙ w.1)))
+        (cases_eq (place labels g.node g.label) i)
 
 -- one byte fewer is not 1
 pub one_fewer : (count : ℕ) (bytes : List ℕ) (i : ℕ) → i < count → count ≤ length bytes → (get_or bytes i 0 ≡ 1 → ⊥)
@@ -75,13 +62,19 @@ one_fewer count bytes i h long ne =
     let e = sum_by-set (λ b. cond (not (eqb b 1)) 1 0) (take count bytes) i 1 0 (omega arith) in
     let f : ◌≡◌ {A = ℕ} (cond (not (eqb (get_or (take count bytes) i 0) 1)) 1 0) 1 =
     ap (λ v. cond {A = ℕ} (not (eqb v 1)) 1 0) (get_or-take count bytes i 0 h) ∙ ap (λ b. cond {A = ℕ} (not b) 1 0) (ne_eqb (get_or bytes i 0) 1 ne) in
-    let t = ap (λ xs. count_by (λ b. not (eqb b 1)) xs) (take_set_lt count bytes i 1 h) in
+    let t = ap (λ xs. count_by (λ b. not (eqb b 1)) xs) (take-set-lt count bytes i 1 h) in
     omega (arith, e, f, t)
 
-pub accepted_parts : (N L h m g n l : ℕ) → accepted N L h m g n l ≡ true → (n < N) × (l < L) × (N * L ≤ h) × (N * L ≤ m) × (N * L ≤ g)
-accepted_parts N L h m g n l e =
-    let a = and_parts _ _ e in
-    let b = and_parts _ _ a.1 in
-    let c = and_parts _ _ b.1 in
-    let d = and_parts _ _ c.1 in
-    (ltb-true n N a.0, ltb-true l L b.0, leb-true (N * L) h c.0, leb-true (N * L) m d.0, leb-true (N * L) g d.1)
+-- the first bytes are cleared
+module _ (n k : ℕ) (ms zs : List ℕ) (same : n ≡ k) (long : k ≤ length ms) (e : zs ≡ replicate (length (take n ms)) 0) where
+  size : length zs ≡ n
+  size = ap length e ∙ length-replicate (length (take n ms)) 0 ∙ length-take-le n ms (omega arith)
+
+  pub cleared_byte : (i : ℕ) → i < k → get_or (zs ++ drop n ms) i 0 ≡ 0
+  cleared_byte i h =
+      let l = size in
+      let m = length-take-le n ms (omega arith) in
+      get_or-append zs (drop n ms) 0 i (omega arith) ∙ ap (λ xs. get_or xs i 0) e ∙ get_or-replicate (length (take n ms)) i 0 0 (omega arith)
+
+  pub cleared_rest : drop k (zs ++ drop n ms) ≡ drop k ms
+  cleared_rest = drop-append-drop n ms zs k (omega arith) size

@@ -1,3 +1,4 @@
 pub mod Labels
+pub mod Marking
 pub mod Pairs
 pub mod Search

@@ -2,7 +2,9 @@
 #![tactic(auto)]
 
 mod admitted;
+mod fault;
 mod pairs;
 mod search;
 
+pub use fault::ReachFault;
 pub use search::reach;

@@ -1,7 +1,8 @@
 // Pairs of node and label, by number.
-ghost use Rattle.std.specs.Prelude.{◌≡◌, ◌+◌, ◌*◌, ◌<◌, ◌≤◌};
+ghost use Rattle.std.specs.Prelude.{◌≡◌, ◌+◌, ◌*◌, ◌<◌, ◌≤◌, ◌↔◌, is_ok, Err};
 ghost use Rattle.leaning.specs.Pairs.{accepted};
 
+use crate::fault::ReachFault;
 use stack::Goal;
 
 // How many nodes and labels there are.
@@ -9,36 +10,43 @@ use stack::Goal;
 pub(crate) struct Pairs {
     pub(crate) nodes: usize,
     pub(crate) labels: usize,
+    ghost few_nodes: { nodes ≤ 256 },
+    ghost few_labels: { labels ≤ 32 },
 }
 
 impl Pairs {
     pub(crate) fn count(self) -> usize
-        requires { (self.nodes ≤ 256) × (self.labels ≤ 32) }
         ensures { result ≡ self.nodes * self.labels }
     {
         self.nodes * self.labels
     }
 
     // The place of the pair's byte.
-    pub(crate) fn place(self, goal: Goal) -> usize
-        requires few { (self.nodes ≤ 256) × (self.labels ≤ 32) }
-        requires within { (goal.node < self.nodes) × (goal.label < self.labels) }
-        ensures value { result ≡ goal.node * self.labels + goal.label }
+    pub(crate) fn place(self, pair: Goal) -> usize
+        requires { (pair.node < self.nodes) × (pair.label < self.labels) }
+        ensures value { result ≡ pair.node * self.labels + pair.label }
         ensures bound { result < self.nodes * self.labels }
     {
-        goal.node as usize * self.labels + goal.label as usize
+        usize::from(pair.node) * self.labels + usize::from(pair.label)
     }
 
     // Whether the pair is one of them, and three slices of these lengths have an element for each.
-    pub(crate) fn fit(self, goal: Goal, held: usize, marks: usize, goals: usize) -> bool
-        requires { (self.nodes ≤ 256) × (self.labels ≤ 32) }
-        ensures { result ≡ accepted self.nodes self.labels held marks goals goal.node goal.label }
+    pub(crate) fn fit(
+        self,
+        pair: Goal,
+        held: usize,
+        marks: usize,
+        goals: usize,
+    ) -> Result<(), ReachFault>
+        ensures answer { is_ok result ≡ accepted self.nodes self.labels held marks goals pair.node pair.label }
+        ensures no_pair { (result ≡ Err ReachFault.NoPair) ↔ ¬ ((pair.node < self.nodes) × (pair.label < self.labels)) }
     {
-        let count = self.count();
-        (goal.node as usize) < self.nodes
-            && (goal.label as usize) < self.labels
-            && count <= held
-            && count <= marks
-            && count <= goals
+        if usize::from(pair.node) >= self.nodes || usize::from(pair.label) >= self.labels {
+            return Err(ReachFault::NoPair);
+        }
+        if held.min(marks).min(goals) < self.count() {
+            return Err(ReachFault::ShortSlice);
+        }
+        Ok(())
     }
 }

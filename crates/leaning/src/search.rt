@@ -1,140 +1,148 @@
 // The search along what pairs lean on.
-ghost use Rattle.std.specs.Prelude.{◌≡◌, ℕ, ◌+◌, ◌*◌, ◌<◌, ◌≤◌, Bool, true, false, ◌⊎◌, length, drop, slice_index};
+ghost use Rattle.std.specs.Prelude.{◌≡◌, ℕ, ◌+◌, ◌*◌, ◌<◌, ◌≤◌, ◌↔◌, Bool, true, false, length, drop, is_ok, Err, OnOk, OnErr};
 ghost use Rattle.shapes.specs.Leaning.{Leans};
-ghost use Rattle.shapes.specs.Typing.{In};
 ghost use Rattle.stack.specs.Entries.{entries};
+ghost use Rattle.stack.specs.declared.Goal.{Goal};
 ghost use Rattle.labels.specs.Members.{member};
 ghost use Rattle.leaning.specs.Labels.{schema_in};
 ghost use Rattle.shapes.specs.Bytes.{byte_typing};
+ghost use Rattle.shapes.specs.Lists.{Member};
 ghost use Rattle.leaning.specs.Pairs.{Clean, graph_of, accepted};
-ghost use Rattle.leaning.specs.Search.{Marked, Ready, Grown, Looked};
+ghost use Rattle.leaning.specs.Search.{count, unmarked, Shown, Looked};
 
 use crate::admitted::admitted;
+use crate::fault::ReachFault;
 use crate::pairs::Pairs;
 use labels::LabelSet;
 use stack::{Goal, Stack};
 use tables::LawfulTables;
 use triple::Store;
 
-// Marks the pair and lets it wait, unless it is held or marked already.
-fn mark(pairs: Pairs, pair: Goal, held: &[u8], marks: &mut [u8], waiting: &mut Stack<Goal>)
-    requires within { (pair.node < pairs.nodes) × (pair.label < pairs.labels) }
-    requires ready { Ready pairs.nodes pairs.labels held.now marks.old waiting.old.slots.now waiting.old.len }
-    ensures ready { Ready pairs.nodes pairs.labels held.now marks.new waiting.new.slots.now waiting.new.len }
-    ensures change { Grown (λ g. g ≡ pair) pairs.nodes pairs.labels held.now marks.old (entries waiting.old.slots.now waiting.old.len) marks.new (entries waiting.new.slots.now waiting.new.len) }
-    ensures made { Marked (byte_typing pairs.nodes pairs.labels held.now) pair ⊎ Marked (byte_typing pairs.nodes pairs.labels marks.new) pair }
-{
-    let place = pairs.place(pair);
-    if held[place] == 1 {
-        return;
-    }
-    if marks[place] == 1 {
-        return;
-    }
-    marks[place] = 1;
-    let _ = waiting.push(pair);
+// The pairs that were marked, none of them held, and those that wait for their visit.
+// The stack is borrowed, since a lent slice beside a field that itself holds a lent slice is lost to the lender's proof.
+#[derive(Drop)]
+struct Search<'a, 'b> {
+    pairs: Pairs,
+    held: &'a [u8],
+    marks: &'a mut [u8],
+    waiting: &'a mut Stack<'b, Goal>,
+    ghost held_long: { count pairs ≤ length held.now },
+    ghost marks_long: { count pairs ≤ length marks.now },
+    ghost clean: { Clean (count pairs) marks.now },
+    ghost apart: { (g : Goal) → Shown pairs marks.now g → ¬ Shown pairs held.now g },
+    ghost waits: { (g : Goal) → Member g (entries waiting.now.slots.now waiting.now.len) → Shown pairs marks.now g },
+    ghost room: { length (entries waiting.now.slots.now waiting.now.len) + unmarked (count pairs) marks.now ≤ length waiting.now.slots.now },
 }
 
-// Marks the object with each of the labels.
-fn mark_labels(
-    pairs: Pairs,
-    object: u16,
-    labels: LabelSet,
-    held: &[u8],
-    marks: &mut [u8],
-    waiting: &mut Stack<Goal>,
-)
-    requires within { object < pairs.nodes }
-    requires ready { Ready pairs.nodes pairs.labels held.now marks.old waiting.old.slots.now waiting.old.len }
-    ensures ready { Ready pairs.nodes pairs.labels held.now marks.new waiting.new.slots.now waiting.new.len }
-    ensures change { Grown (λ g. (g.node ≡ object) × (member labels g.label ≡ true)) pairs.nodes pairs.labels held.now marks.old (entries waiting.old.slots.now waiting.old.len) marks.new (entries waiting.new.slots.now waiting.new.len) }
-    ensures made { (k : ℕ) → k < pairs.labels → member labels k ≡ true → In (byte_typing pairs.nodes pairs.labels held.now) object k ⊎ In (byte_typing pairs.nodes pairs.labels marks.new) object k }
-{
-    for label in 0..pairs.labels as u8 {
-        if labels.contains(label) {
-            mark(
-                pairs,
-                Goal {
+impl<'a, 'b> Search<'a, 'b> {
+    ghost use Rattle.leaning.specs.Marking.{Frame, Begun, Grown, Covered, Popped};
+
+    // No pair is marked.
+    fn over(
+        pairs: Pairs,
+        held: &'a [u8],
+        marks: &'a mut [u8],
+        waiting: &'a mut Stack<'b, Goal>,
+    ) -> Search<'a, 'b>
+        requires idle { waiting.old.len ≡ 0 }
+        requires held_long { count pairs ≤ length held.now }
+        requires marks_long { count pairs ≤ length marks.old }
+        requires goals_long { count pairs ≤ length waiting.old.slots.now }
+        ensures begun { Begun pairs held.now marks.old result }
+        ensures lent { result.marks.ghost_name ≡ marks.entry.ghost_name }
+    {
+        marks[..pairs.count()].fill(0);
+        Search {
+            pairs,
+            held,
+            marks,
+            waiting,
+        }
+    }
+
+    // Marks the pair and lets it wait, unless it is held or marked already.
+    fn mark(&mut self, pair: Goal)
+        requires { (pair.node < self.old.pairs.nodes) × (pair.label < self.old.pairs.labels) }
+        ensures change { Grown (λ g. g ≡ pair) self.old self.new }
+        ensures made { Covered self.new pair }
+    {
+        let place = self.pairs.place(pair);
+        if self.held[place] == 1 || self.marks[place] == 1 {
+            return;
+        }
+        self.marks[place] = 1;
+        let _ = self.waiting.push(pair);
+    }
+
+    // Marks the object with each of the labels.
+    fn mark_labels(&mut self, object: u16, labels: LabelSet)
+        requires { object < self.old.pairs.nodes }
+        ensures change { Grown (λ g. (g.node ≡ object) × (member labels g.label ≡ true)) self.old self.new }
+        ensures made { (k : ℕ) → k < self.old.pairs.labels → member labels k ≡ true → Covered self.new (record { node = object; label = k }) }
+    {
+        for label in 0..self.pairs.labels as u8 {
+            if labels.contains(label) {
+                self.mark(Goal {
                     node: object,
                     label,
-                },
-                held,
-                marks,
-                waiting,
-            );
+                });
+            }
         }
     }
-}
 
-// Marks the pairs that the pair leans on.
-fn mark_next<S: Store>(
-    tables: &LawfulTables,
-    store: &S,
-    pairs: Pairs,
-    pair: Goal,
-    held: &[u8],
-    marks: &mut [u8],
-    waiting: &mut Stack<Goal>,
-)
-    requires pairs { (pairs.nodes ≡ S.Store.nodes store.now) × (pairs.labels ≡ (schema_in tables.now).labels) }
-    requires within { (pair.node < pairs.nodes) × (pair.label < pairs.labels) }
-    requires ready { Ready pairs.nodes pairs.labels held.now marks.old waiting.old.slots.now waiting.old.len }
-    ensures ready { Ready pairs.nodes pairs.labels held.now marks.new waiting.new.slots.now waiting.new.len }
-    ensures change { Grown (λ g. Leans (schema_in tables.now) (graph_of (S.Store.nodes store.now) (S.Store.arcs store.now) (λ n t. true)) pair.node pair.label g.node g.label) pairs.nodes pairs.labels held.now marks.old (entries waiting.old.slots.now waiting.old.len) marks.new (entries waiting.new.slots.now waiting.new.len) }
-    ensures made { (o k : ℕ) → Leans (schema_in tables.now) (graph_of (S.Store.nodes store.now) (S.Store.arcs store.now) (λ n t. true)) pair.node pair.label o k → In (byte_typing pairs.nodes pairs.labels held.now) o k ⊎ In (byte_typing pairs.nodes pairs.labels marks.new) o k }
-{
-    tables.lawful();
-    store.lawful();
-    for place in 0..store.fan(pair.node) {
-        if let Some((property, object)) = store.arc(pair.node, place) {
-            let labels = admitted(tables, pair.label, property);
-            mark_labels(pairs, object, labels, held, marks, waiting);
+    // Marks the pairs that the pair leans on.
+    fn mark_next<S: Store>(&mut self, tables: &LawfulTables, store: &S, pair: Goal)
+        requires pairs { (self.old.pairs.nodes ≡ S.Store.nodes store.now) × (self.old.pairs.labels ≡ (schema_in tables.now).labels) }
+        requires within { (pair.node < self.old.pairs.nodes) × (pair.label < self.old.pairs.labels) }
+        ensures change { Grown (λ g. Leans (schema_in tables.now) (graph_of (S.Store.nodes store.now) (S.Store.arcs store.now) (λ n t. true)) pair.node pair.label g.node g.label) self.old self.new }
+        ensures made { (g : Goal) → Leans (schema_in tables.now) (graph_of (S.Store.nodes store.now) (S.Store.arcs store.now) (λ n t. true)) pair.node pair.label g.node g.label → Covered self.new g }
+    {
+        tables.lawful();
+        store.lawful();
+        for place in 0..store.fan(pair.node) {
+            if let Some((property, object)) = store.arc(pair.node, place) {
+                self.mark_labels(object, admitted(tables, pair.label, property));
+            }
         }
     }
-}
 
-fn clear(marks: &mut [u8], count: usize)
-    requires { count ≤ length marks.old }
-    ensures value { (i : ℕ) → i < count → slice_index marks.new i ≡ 0 }
-    ensures rest { drop count marks.new ≡ drop count marks.old }
-    ensures kept { length marks.new ≡ length marks.old }
-{
-    for i in 0..count {
-        marks[i] = 0;
+    // The newest pair that waits, which no longer does.
+    fn pop(&mut self) -> Option<Goal>
+        ensures { Popped result self.old self.new }
+    {
+        self.waiting.pop()
     }
 }
 
 // Marks the pairs that leaning leads to from the asked one, itself included, through pairs that are not held; other bytes become 0.
-// Answers false, and changes nothing, if there is no such pair, or if a slice has fewer elements than there are pairs.
+// Refuses, and changes nothing, if there is no such pair, or if a slice has fewer elements than there are pairs.
 pub fn reach<S: Store>(
     tables: &LawfulTables,
     store: &S,
     held: &[u8],
-    node: u16,
-    label: u8,
+    goal: Goal,
     marks: &mut [u8],
     goals: &mut [Goal],
-) -> bool
-    ensures answer { result ≡ accepted (S.Store.nodes store.now) (schema_in tables.now).labels (length held.now) (length marks.old) (length goals.old) node label }
-    ensures same { result ≡ false → (marks.new ≡ marks.old) × (goals.new ≡ goals.old) }
-    ensures clean { result ≡ true → Clean (S.Store.nodes store.now * (schema_in tables.now).labels) marks.new }
+) -> Result<(), ReachFault>
+    ensures answer { is_ok result ≡ accepted (S.Store.nodes store.now) (schema_in tables.now).labels (length held.now) (length marks.old) (length goals.old) goal.node goal.label }
+    ensures no_pair { (result ≡ Err ReachFault.NoPair) ↔ ¬ ((goal.node < S.Store.nodes store.now) × (goal.label < (schema_in tables.now).labels)) }
+    ensures same { OnErr result ((marks.new ≡ marks.old) × (goals.new ≡ goals.old)) }
+    ensures clean { OnOk result (Clean (S.Store.nodes store.now * (schema_in tables.now).labels) marks.new) }
     ensures rest { drop (S.Store.nodes store.now * (schema_in tables.now).labels) marks.new ≡ drop (S.Store.nodes store.now * (schema_in tables.now).labels) marks.old }
-    ensures change { result ≡ true → (passes : ℕ → ℕ → Bool) → Looked (schema_in tables.now) (graph_of (S.Store.nodes store.now) (S.Store.arcs store.now) passes) (byte_typing (S.Store.nodes store.now) (schema_in tables.now).labels held.now) node label (byte_typing (S.Store.nodes store.now) (schema_in tables.now).labels marks.new) }
+    ensures change { OnOk result ((passes : ℕ → ℕ → Bool) → Looked (schema_in tables.now) (graph_of (S.Store.nodes store.now) (S.Store.arcs store.now) passes) (byte_typing (S.Store.nodes store.now) (schema_in tables.now).labels held.now) goal.node goal.label (byte_typing (S.Store.nodes store.now) (schema_in tables.now).labels marks.new)) }
 {
     tables.lawful();
     store.lawful();
     let pairs = Pairs {
-        nodes: store.node_count() as usize,
+        nodes: usize::from(store.node_count()),
         labels: tables.definitions().len(),
     };
-    if !pairs.fit(Goal { node, label }, held.len(), marks.len(), goals.len()) {
-        return false;
-    }
-    clear(marks, pairs.count());
+    pairs.fit(goal, held.len(), marks.len(), goals.len())?;
     let mut waiting = Stack::over(goals);
-    mark(pairs, Goal { node, label }, held, marks, &mut waiting);
-    while let Some(pair) = waiting.pop() {
-        mark_next(tables, store, pairs, pair, held, marks, &mut waiting);
+    let mut search = Search::over(pairs, held, marks, &mut waiting);
+    search.mark(goal);
+    while let Some(pair) = search.pop() {
+        search.mark_next(tables, store, pair);
     }
-    true
+    Ok(())
 }

@@ -96,15 +96,7 @@ pub(crate) fn decide_reached<'a, S: Store, V: ValueTest>(
     if held[usize::from(goal.node) * schema.label_count() + usize::from(goal.label)] == 1 {
         return;
     }
-    let _ = reach(
-        schema.tables(),
-        store,
-        held,
-        goal.node,
-        goal.label,
-        wanted,
-        goals,
-    );
+    let _ = reach(schema.tables(), store, held, goal, wanted, goals);
     decide_wanted(schema, store, values, wanted, held, verdicts, scratch);
 }
 

@@ -1,5 +1,5 @@
-use Rattle.std.proofs.Common.{◌≡◌, ◌+◌, ◌*◌, true, length, get_or, sym, ap, ◌∙◌, subst, arith}
-use Rattle.std.proofs.lemmas.Bool.{and_from, lt-ltb, le-leb}
+use Rattle.std.proofs.Common.{◌≡◌, ◌+◌, ◌*◌, true, length, get_or, is_ok, OnOk, Ok, Err, Result, sym, ap, ◌∙◌, subst, arith}
+use Rattle.std.proofs.lemmas.Bool.{and_from, lt-ltb, le-leb, true≢false}
 use Rattle.node_check.specs.Answers.{graph}
 use Rattle.draft.specs.Tables.{schema_of}
 use Rattle.leaning.specs.Pairs.{accepted}
@@ -9,6 +9,11 @@ use Rattle.schema.specs.Accepted.{meaning}
 use Rattle.validator.proofs.Places.{spot, place_below, decides_shown}
 use Rattle.validator.proofs.Widening.{joined_shown, looked_at, looked_held}
 use Rattle.validator.proofs.decide.decide_reached.Goals as goal
+
+-- what a search that is not refused promises
+when_ok : {A E Q : Type 0} (r : Result A E) → is_ok r ≡ true → OnOk r Q → Q
+when_ok (Ok x) e h = h
+when_ok (Err x) e h = absurd (true≢false (sym e))
 
 pub returns : goal.returns
 returns g c =
@@ -21,8 +26,8 @@ returns g c =
     let wanted = c.reach.new.marks in
     let fits : accepted N S.labels (length held) (length c.args.wanted.now) (length c.args.goals.now) n l ≡ true =
     and_from _ _ (lt-ltb n N c.requires.within.0) (and_from _ _ (lt-ltb l S.labels c.requires.within.1) (and_from _ _ (le-leb _ _ c.requires.held_long) (and_from _ _ (le-leb _ _ c.requires.wanted_long) (le-leb _ _ c.requires.goals_long)))) in
-    let answer = subst (λ t. c.reach.result ≡ accepted N (schema_of t).labels (length held) (length c.args.wanted.now) (length c.args.goals.now) n l) c.tables.ensures c.reach.ensures.answer in
-    let looked = subst (λ t. Looked (schema_of t) G (byte_typing N (schema_of t).labels held) n l (byte_typing N (schema_of t).labels wanted)) c.tables.ensures (c.reach.ensures.change (answer ∙ fits) (g.V.ValueTest.passes c.args.values.now)) in
+    let answer = subst (λ t. is_ok c.reach.result ≡ accepted N (schema_of t).labels (length held) (length c.args.wanted.now) (length c.args.goals.now) n l) c.tables.ensures c.reach.ensures.answer in
+    let looked = subst (λ t. Looked (schema_of t) G (byte_typing N (schema_of t).labels held) n l (byte_typing N (schema_of t).labels wanted)) c.tables.ensures (when_ok c.reach.result (answer ∙ fits) c.reach.ensures.change (g.V.ValueTest.passes c.args.values.now)) in
     looked_at S G n l (byte_typing N S.labels held) (byte_typing N S.labels wanted) (byte_typing N S.labels c.args.verdicts.now) (byte_typing N S.labels c.decide_wanted.new.held) (byte_typing N S.labels c.decide_wanted.new.verdicts)
     looked (joined_shown N S.labels wanted held c.decide_wanted.new.held c.decide_wanted.ensures.change) c.decide_wanted.ensures.value
 
