@@ -4,7 +4,7 @@ use crate::call_lines::{CallLine, Strata, SweepLine};
 use crate::command::Command;
 use crate::lines::Line;
 use crate::tally::count_held;
-use replay::{Answer, Call, Sweep, replay};
+use replay::{Answer, Call, Short, Sweep, replay};
 use schema::Schema;
 use std::alloc::{AllocError, Global};
 use validate::Validate;
@@ -72,8 +72,8 @@ impl Batch {
         Ok(())
     }
 
-    // Makes the calls, and counts the verdicts that they dropped. Answers whether they were made.
-    pub fn run_on<A: Validate>(&mut self, validator: &mut A) -> bool {
+    // Makes the calls, and counts the verdicts that they dropped.
+    pub fn run_on<A: Validate>(&mut self, validator: &mut A) -> Result<(), Short> {
         let before = count_held(validator);
         let ran = replay(
             validator,
@@ -120,18 +120,10 @@ impl Batch {
     }
 }
 
-// How many bytes the table of a call takes.
-pub fn room_of(call: Call) -> usize {
-    match call {
-        Call::Sweep(sweep) => usize::from(sweep.room),
-        _ => 0,
-    }
-}
-
 fn room_of_all(calls: &[Call]) -> usize {
     let mut room = 0usize;
     for call in calls {
-        room = room.saturating_add(room_of(*call));
+        room = room.saturating_add(usize::from(call.room()));
     }
     room
 }

@@ -1,6 +1,6 @@
 // The day of a house: the lines from the first call on its validator on.
 use crate::answer::Answer;
-use crate::batch::{Batch, gather, room_of};
+use crate::batch::{Batch, gather};
 use crate::call_answer::CallAnswer;
 use crate::command::Command;
 use crate::expected::Expected;
@@ -32,7 +32,7 @@ fn tell_batch(
         let told = batch.told(rt.alloc(), *call, *answer, start)?;
         tally.ask(matches!(told, CallAnswer::Refused(_)));
         tell(rt, *line, Ok(Answer::Call(told)))?;
-        start = start.saturating_add(room_of(*call));
+        start = start.saturating_add(usize::from(call.room()));
     }
     tally.lose(batch.dropped);
     Ok(())
@@ -94,7 +94,7 @@ fn run_lines<S: Store + Drop, V: ValueTest + Drop>(
         if batch.len() == 0 {
             let result = carry_out(rt, validator, session, tally, line);
             tell(rt, *line, result)?;
-        } else if batch.run_on(validator) {
+        } else if batch.run_on(validator).is_ok() {
             tell_batch(rt, lines, index, &batch, tally)?;
             next = index.saturating_add(batch.len());
         } else {
@@ -123,7 +123,7 @@ pub fn run_day<S: Store + Drop, V: ValueTest + Drop>(
         batch.answers.as_mut_slice(),
         batch.tables.as_mut_slice(),
     );
-    if !ran {
+    if ran.is_err() {
         return Err(anyhow!("a list of calls did not fit its answers"));
     }
     let mut tally = Tally::new();

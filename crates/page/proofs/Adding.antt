@@ -1,13 +1,15 @@
 -- Adds one after another. Assumes nothing.
-use Rattle.std.proofs.Common.{◌≡◌, ℕ, zero, suc, ◌+◌, ◌<◌, List, [], ◌∷◌, ◌++◌, length, Err, sym, refl, ap, ◌∙◌, subst, ⊎_elim, suc-add, zero-add, arith}
+use Rattle.std.proofs.Common.{◌≡◌, ℕ, zero, suc, ◌+◌, ◌<◌, List, [], ◌∷◌, ◌++◌, length, MatchResult, Ok, Err, Result, sym, refl, ap, ◌∙◌, subst, ⊎_elim, add-zero, suc-add, zero-add, arith}
 use Rattle.std.proofs.lemmas.List.{append_assoc, append-nil, length-append, length-map}
 use Rattle.std.proofs.lemmas.Bool.{cases_eq}
+use Rattle.std.proofs.lemmas.Result.{err_from_is_err_and}
+use Rattle.std.specs.Result.{IsErrAnd}
 use Rattle.refusal.specs.Refusals.{Refusal}
 use Rattle.triple.specs.Stores.{Lists, total}
-use Rattle.shapes.specs.Expr.{Schema}
 use Rattle.ledger.specs.Ledger.{Ledger}
+use Rattle.ledger.specs.Steps.{AddStep}
 use Rattle.validate.specs.Faults as validator
-use Rattle.validate.specs.Promise.{Keeps}
+use Rattle.validate.specs.declared.fault.ValidatorFault.{ValidatorFault}
 use Rattle.page.specs.declared.fault.Entry.{Entry}
 use Rattle.page.specs.Format.{Spo, of_node, triples_of}
 use Rattle.page.specs.Loading.{Adds, none, more, Stops, here, later}
@@ -32,12 +34,14 @@ pub outcome_after : (b b' b'' : Ledger) (whole xs ys zs : List Spo) (start at : 
 outcome_after b b' b'' whole xs ys zs start at e split from first then =
     (length xs + then.0, omega (arith, then.1, from), subst (λ (ts : List Spo). Stops b ts (length xs + then.0) (validator.code e.fault) b'') (sym split) (stops_after first (stops_before zs then.2)))
 
-pub keeps_none : (S : Schema) (b : Ledger) (bytes : List ℕ) → Keeps S b bytes b bytes
-keeps_none S b bytes = λ σ stratified sound. sound
-
-pub keeps_next : (S S' : Schema) (b b' b'' : Ledger) (bytes bytes' bytes'' : List ℕ) → S' ≡ S → Keeps S b bytes b' bytes' → Keeps S' b' bytes' b'' bytes'' → Keeps S b bytes b'' bytes''
-keeps_next S S' b b' b'' bytes bytes' bytes'' same first then =
-    λ σ stratified sound. subst (λ (T : Schema). Keeps T b' bytes' b'' bytes'') same then σ stratified (first σ stratified sound)
+-- one add, whose fault is told with the number of its entry
+pub added_or_stopped : (b b' : Ledger) (s p o at : ℕ) (r : Result (Unit {0}) ValidatorFault) (q : Result (Unit {0}) Entry) (P : ValidatorFault → Entry → Type 0)
+    → AddStep b s p o (validator.told r) b' → MatchResult r (λ x. q ≡ Ok x) (λ f. IsErrAnd q (P f)) → ((f : ValidatorFault) (e : Entry) → P f e → e ≡ record { at = at; fault = f })
+    → Outcome b ((s, p, o) ∷ []) at b' q
+added_or_stopped b b' s p o at (Ok x) q P step same told = subst (Outcome b ((s, p, o) ∷ []) at b') (sym same) (more step none)
+added_or_stopped b b' s p o at (Err f) q P step same told =
+    let e = err_from_is_err_and q same in
+    subst (Outcome b ((s, p, o) ∷ []) at b') (sym (e.1 ∙ ap Err (told f e.0 e.2))) (0, sym (add-zero at), here step)
 
 pub length_triples : (n : ℕ) (arcs : Lists) → length (triples_of n arcs) ≡ total n arcs
 length_triples zero arcs = refl

@@ -1,7 +1,9 @@
 -- The checks of a page's head, one after another. Assumes nothing.
-use Rattle.std.proofs.Common.{◌≡◌, ℕ, suc, ◌+◌, ◌*◌, ◌/◌, ◌%◌, ◌<◌, ◌≤◌, Bool, true, false, cond, not, eqb, ltb, List, [], ◌∷◌, length, get_or, take, drop, Some, None, Ok, Err, sum, Option, Result, refl, ap, ◌∙◌, arith}
+use Rattle.std.proofs.Common.{◌≡◌, ℕ, suc, ◌+◌, ◌*◌, ◌/◌, ◌%◌, ◌<◌, ◌≤◌, Bool, true, false, cond, not, eqb, ltb, List, [], ◌∷◌, length, get_or, take, drop, Some, None, Ok, Err, sum, Option, Result, refl, ap, ◌∙◌, arith, rules}
 use Rattle.std.proofs.lemmas.List.{length-take-le, length-drop, at_drop_more}
 use Rattle.std.proofs.lemmas.Bool.{lt-ltb, le-ltb, eq-eqb, ne_eqb}
+use mir.Syntax.{w16}
+use Rattle.std.specs.Int.{from_le_bytes}
 use Rattle.refusal.specs.declared.Layer.TheVariants.{Page}
 use Rattle.page.specs.Faults.{Told, nothing, node}
 use Rattle.page.specs.Loading.{wide, fan_refusal, page_refusal, answered, count_of, fan_bytes}
@@ -20,6 +22,9 @@ pub wide_none : (fans : List ℕ) (s : ℕ) → wide fans ≡ length fans → �
 wide_none fans s e = rw (e, le-ltb (length fans) (length fans) (omega arith)) refl
 
 -- the two bytes of a count
+pub read_count : (low high count n : ℕ) → count ≡ from_le_bytes w16 (low ∷ high ∷ []) → count ≡ n → low + 256 * high ≡ n
+read_count low high count n read same = search rules
+
 pub head_bytes : (n : ℕ) (bytes : List ℕ) → 2 ≤ length bytes → get_or bytes 0 0 < 256 → count_of bytes ≡ n → take 2 bytes ≡ n % 256 ∷ n / 256 ∷ []
 head_bytes n [] h small e = let z : ⊥ = omega arith in elim z [ ]
 head_bytes n (x ∷ []) h small e = let z : ⊥ = omega arith in elim z [ ]

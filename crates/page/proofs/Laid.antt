@@ -1,6 +1,8 @@
 -- Bytes laid over a buffer, one more at a time; lengths of the parts of a page. Assumes nothing.
 use Rattle.std.proofs.Common.{◌≡◌, ℕ, zero, suc, ◌+◌, ◌-◌, ◌*◌, ◌/◌, ◌%◌, ◌<◌, ◌≤◌, true, false, ltb, List, [], ◌∷◌, ◌++◌, length, get_or, take, drop, set, Some, Ok, Err, Result, sym, refl, ap, ◌∙◌, subst, ⊎_elim, add-one, arith}
 use borrow.Rule.Slice.PartMut.{put_mid}
+use mir.Syntax.{w16}
+use Rattle.std.specs.Int.{to_le_bytes}
 use Rattle.std.proofs.lemmas.Slice.{take-put_mid, drop-put_mid}
 use Rattle.refusal.specs.declared.Layer.TheVariants.{Page}
 use Rattle.std.specs.List.{slice_get}
@@ -102,18 +104,22 @@ save_long buffer n arcs h =
     let long : ltb (length buffer) (length (page_of n arcs)) ≡ false = le-ltb _ _ (omega (arith, length_page n arcs)) in
     (ap Ok (sym (length_page n arcs)) ∙ sym (cond-false _ _ _ long), sym (cond-false _ _ _ long))
 
+-- the bytes of a count
+pub count_bytes : (bytes : List ℕ) (n : ℕ) → n < 65536 → bytes ≡ to_le_bytes w16 n → (get_or bytes 0 0 ≡ n % 256) × (get_or bytes 1 0 ≡ n / 256)
+count_bytes bytes n few e = (ap (λ (xs : List ℕ). get_or xs 0 0) e ∙ omega arith, ap (λ (xs : List ℕ). get_or xs 1 0) e ∙ omega arith)
+
 -- the answer and the buffer of a save that fits, as its parts come
-pub save_parts : (buffer fans bytes : List ℕ) (n t nodes : ℕ) (arcs : Lists) → n ≡ nodes → t ≡ total nodes arcs → fans ≡ fans_of nodes arcs
+pub save_parts : (buffer fans bytes : List ℕ) (low high n t nodes : ℕ) (arcs : Lists) → low ≡ nodes % 256 → high ≡ nodes / 256 → n ≡ nodes → t ≡ total nodes arcs → fans ≡ fans_of nodes arcs
     → bytes ≡ properties_of (arcs_of nodes arcs) ++ objects_of (arcs_of nodes arcs) → 2 + n + 2 * t ≤ length buffer
     → (◌≡◌ {A = Result ℕ Told} (Ok (2 + n + 2 * t)) (save_answer buffer nodes arcs))
-    × (put_mid (2 + n) (2 + n + 2 * t - (2 + n)) (put_mid 2 (2 + n - 2) (set (set buffer 0 (n % 256)) 1 (n / 256)) fans) bytes ≡ save_after buffer nodes arcs)
-save_parts buffer fans bytes n t nodes arcs en et ef eb room =
+    × (put_mid (2 + n) (2 + n + 2 * t - (2 + n)) (put_mid 2 (2 + n - 2) (set (set buffer 0 low) 1 high) fans) bytes ≡ save_after buffer nodes arcs)
+save_parts buffer fans bytes low high n t nodes arcs el eh en et ef eb room =
     let long = save_long buffer nodes arcs (omega arith) in
     let fans_long : length fans ≡ n = ap length ef ∙ length_fans nodes arcs ∙ sym en in
     let bytes_long : length bytes ≡ 2 * t = ap length eb ∙ simp (length-append, length-map, length_arcs) (omega arith) in
-    let same : n % 256 ∷ n / 256 ∷ (fans ++ bytes) ≡ page_of nodes arcs = cc in
+    let same : low ∷ high ∷ (fans ++ bytes) ≡ page_of nodes arcs = cc in
     let answer : 2 + n + 2 * t ≡ 2 + nodes + 2 * total nodes arcs = omega arith in
-    (ap Ok answer ∙ long.0, parts_over buffer fans bytes (n % 256) (n / 256) n t fans_long bytes_long room ∙ ap (over buffer) same ∙ long.1)
+    (ap Ok answer ∙ long.0, parts_over buffer fans bytes low high n t fans_long bytes_long room ∙ ap (over buffer) same ∙ long.1)
 
 -- the arcs of the nodes up to m are no more than all
 pub total_within : (arcs : Lists) (n m : ℕ) → m < n → total m arcs + length (arcs m) ≤ total n arcs

@@ -1,6 +1,6 @@
 -- From what the parts of a load do to what a load does. Assumes nothing.
-use Rattle.std.proofs.Common.{◌≡◌, ℕ, ◌+◌, List, length, take, drop, Some, None, Ok, Err, sum, sym, ap, ◌∙◌, subst, zero-add, arith}
-use Rattle.std.proofs.lemmas.List.{length-take-le, length-drop, take_all}
+use Rattle.std.proofs.Common.{◌≡◌, ℕ, ◌+◌, List, length, take, drop, Some, None, Ok, Err, sum, refl, sym, ap, ◌∙◌, subst, zero-add, arith}
+use Rattle.std.proofs.lemmas.List.{length-take-le, length-drop, drop-drop, take_all}
 use Rattle.refusal.specs.declared.Layer.TheVariants.{Page}
 use Rattle.triple.specs.Stores.{total}
 use Rattle.ledger.specs.Ledger.{Ledger}
@@ -15,6 +15,13 @@ use Rattle.page.proofs.Rows.{rows_page, rows_total, page_parts}
 
 pub refused_loads : (b : Ledger) (n s : ℕ) (bytes : List ℕ) (e : Told) → n ≡ b.nodes → Err e ≡ answered (page_refusal n bytes) s → Loads b bytes (Err e) b
 refused_loads b n s bytes e same h = refused (subst (λ m. page_refusal m bytes ≡ Some e) same (answered_err _ s e h))
+
+-- the parts of a page, cut off one after another
+pub parts_cut : (bytes rest fans arcs ps os : List ℕ) (n k t : ℕ) → rest ≡ drop 2 bytes → k ≡ n → fans ≡ take k rest → arcs ≡ drop k rest → ps ≡ take t arcs → os ≡ drop t arcs
+    → (fans ≡ fan_bytes n bytes) × (ps ≡ take t (drop (2 + n) bytes)) × (os ≡ drop (2 + n + t) bytes)
+parts_cut bytes rest fans arcs ps os n k t er ek ef ea ep eo =
+    let behind : arcs ≡ drop (2 + n) bytes = ea ∙ rw (er, ek) (drop-drop n 2 bytes) in
+    (ef ∙ rw (er, ek) refl, ep ∙ ap (take t) behind, eo ∙ ap (drop t) behind ∙ drop-drop t (2 + n) bytes)
 
 -- a page that passed its checks, and its parts
 module _ (b : Ledger) (n t : ℕ) (bytes fans ps os : List ℕ) (same : n ≡ b.nodes) (passed : Ok t ≡ answered (page_refusal n bytes) (sum (fan_bytes n bytes))) (whole : Whole n t bytes)

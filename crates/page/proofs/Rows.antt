@@ -1,10 +1,19 @@
 -- The lists that a page's bytes stand for: their lengths, and that they are the page's. Assumes nothing.
 use Rattle.std.proofs.Common.{◌≡◌, ℕ, zero, suc, ◌+◌, ◌/◌, ◌%◌, ◌<◌, ◌≤◌, List, [], ◌∷◌, ◌++◌, length, get_or, take, drop, sum, sym, refl, ap, ◌∙◌, suc-add, zero-add, add-one, arith}
-use Rattle.std.proofs.lemmas.List.{length-take-le, length-drop, take_all, take_more, take-append-drop, drop-drop, length-map, map-append}
-use Rattle.std.proofs.lemmas.List.Sums.{sum_by_more, sum_by-take-le}
+use native.Mathlib.Decide.{dec_lt}
+use Rattle.std.proofs.lemmas.List.{length-take-le, length-drop, take_all, take_more, drop_more, drop_all, take-append-drop, drop-drop, length-map, map-append}
+use Rattle.std.proofs.lemmas.List.Sums.{sum_by_more, sum_by_more_le}
 use Rattle.triple.specs.Stores.{total}
 use Rattle.page.specs.Format.{of_node, fans_of, arcs_of, properties_of, objects_of, page_of}
 use Rattle.page.specs.Reading.{pairs, rows, Whole}
+
+-- the first of what is left of a list
+pub drop_head : (xs : List ℕ) (i x : ℕ) (rest : List ℕ) → x ∷ rest ≡ drop i xs → (i < length xs) × (x ≡ get_or xs i 0) × (rest ≡ drop (i + 1) xs)
+drop_head xs i x rest e = here (dec_lt i (length xs))
+  where
+    here : Dec (i < length xs) → (i < length xs) × (x ≡ get_or xs i 0) × (rest ≡ drop (i + 1) xs)
+    here (yes h) = let split = drop_more xs i 0 h in (h, cc, cc)
+    here (no n) = let none = drop_all i xs (omega arith) in let z : ◌≡◌ {A = ℕ} 0 1 = cc in absurd (omega arith)
 
 pub length_pairs : (ps os : List ℕ) → length os ≡ length ps → length (pairs ps os) ≡ length ps
 length_pairs [] os e = refl
@@ -75,14 +84,11 @@ page_parts n t bytes w =
     (drop-drop n 2 bytes ∙ sym (take-append-drop t (drop (2 + n) bytes)) ∙ ap (λ z. take t (drop (2 + n) bytes) ++ z) (drop-drop t (2 + n) bytes)))
 
 -- the arcs of a node end within all
-pub row_within : (fans : List ℕ) (m : ℕ) → m < length fans → sum (take m fans) + get_or fans m 0 ≤ sum fans
-row_within fans m h = omega (arith, sum_by_more (λ x. x) fans m 0 h, sum_by-take-le (λ x. x) fans (m + 1))
-
 -- properties and objects are as many as the fans say
 module _ (fans ps os : List ℕ) (ep : length ps ≡ sum fans) (eo : length os ≡ sum fans) where
   pub row_length : (m : ℕ) → m < length fans → length (rows fans ps os m) ≡ get_or fans m 0
   row_length m h =
-      let within = row_within fans m h in
+      let within = sum_by_more_le (λ x. x) fans m 0 h in
       let pl : length (take (get_or fans m 0) (drop (sum (take m fans)) ps)) ≡ get_or fans m 0 = length-take-le _ _ (simp length-drop (omega arith)) in
       let ol : length (take (get_or fans m 0) (drop (sum (take m fans)) os)) ≡ get_or fans m 0 = length-take-le _ _ (simp length-drop (omega arith)) in
       length_pairs _ _ (ol ∙ sym pl) ∙ pl
@@ -103,7 +109,7 @@ module _ (fans ps os : List ℕ) (ep : length ps ≡ sum fans) (eo : length os �
   rows_arcs zero h = refl
   rows_arcs (suc m) h =
       let more : sum (take (suc m) fans) ≡ sum (take m fans) + get_or fans m 0 = rw add-one at (sum_by_more (λ x. x) fans m 0 (omega arith)) in
-      let within = row_within fans m (omega arith) in
+      let within = sum_by_more_le (λ x. x) fans m 0 (omega arith) in
       ap (λ z. z ++ rows fans ps os m) (rows_arcs m (omega arith))
       ∙ sym (pairs_append ps os (sum (take m fans)) (get_or fans m 0) (omega arith) (eo ∙ sym ep))
       ∙ ap (λ k. pairs (take k ps) (take k os)) (sym more)

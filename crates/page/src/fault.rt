@@ -6,13 +6,13 @@ use std::fmt;
 use validate::ValidatorFault;
 
 // An entry of a page, counted from 0, with the whole fault of its add.
-#[derive(Clone, Copy)]
+#[derive(Clone, Copy, PartialEq, Eq, Debug)]
 pub struct Entry {
     pub at: usize,
     pub fault: ValidatorFault,
 }
 
-#[derive(Clone, Copy)]
+#[derive(Clone, Copy, PartialEq, Eq, Debug)]
 pub enum PageFault {
     Short,
     OtherCount,

@@ -15,11 +15,12 @@ pub(crate) fn read_head(page: &[u8], nodes: u16) -> Result<usize, PageFault>
     let [low, high, rest @ ..] = page else {
         return Err(PageFault::Short);
     };
-    let fans = nodes as usize;
+    let fans = usize::from(nodes);
     if rest.len() < fans {
         return Err(PageFault::Short);
     }
-    if *low as u16 + 256 * *high as u16 != nodes {
+    let count = u16::from_le_bytes([*low, *high]);
+    if count != nodes {
         return Err(PageFault::OtherCount);
     }
     let total = count_arcs(&rest[0..fans])?;
@@ -40,7 +41,7 @@ fn count_arcs(fans: &[u8]) -> Result<usize, PageFault>
         if *fan > MAX_FAN {
             return Err(PageFault::Fan(node as u16));
         }
-        total += *fan as usize;
+        total += usize::from(*fan);
     }
     Ok(total)
 }

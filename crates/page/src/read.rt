@@ -13,19 +13,15 @@ use validate::Validate;
 
 // Adds the triples of the page, one by one, and answers how many they are.
 pub fn load<A: Validate>(validator: &mut A, page: &[u8]) -> Result<usize, PageFault>
-    ensures step { Loads (A.Validate.ledger validator.old) page.now (told result) (A.Validate.ledger validator.new) }
-    ensures restored { Restores (A.Validate.ledger validator.old) page.now (told result) (A.Validate.ledger validator.new) }
-    ensures same { (e : Told) → page_refusal (A.Validate.ledger validator.old).nodes page.now ≡ Some e → validator.new ≡ validator.old }
-    ensures sound { Keeps (A.Validate.schema validator.old) (A.Validate.ledger validator.old) (A.Validate.verdicts validator.old) (A.Validate.ledger validator.new) (A.Validate.verdicts validator.new) }
-    ensures kept { A.Validate.schema validator.new ≡ A.Validate.schema validator.old }
+    ensures step { Loads (A.Validate.state validator.old).ledger page.now (told result) (A.Validate.state validator.new).ledger }
+    ensures restored { Restores (A.Validate.state validator.old).ledger page.now (told result) (A.Validate.state validator.new).ledger }
+    ensures same { (e : Told) → page_refusal (A.Validate.state validator.old).ledger.nodes page.now ≡ Some e → validator.new ≡ validator.old }
+    ensures kept { Keeps (A.Validate.state validator.old) (A.Validate.state validator.new) }
 {
     let nodes = validator.node_count();
     let total = read_head(page, nodes)?;
-    let fans_end = 2 + nodes as usize;
-    let middle = fans_end + total;
-    let fans = &page[2..fans_end];
-    let properties = &page[fans_end..middle];
-    let objects = &page[middle..page.len()];
+    let (fans, arcs) = page[2..].split_at(usize::from(nodes));
+    let (properties, objects) = arcs.split_at(total);
     add_page(validator, fans, properties, objects)?;
     Ok(total)
 }
@@ -40,13 +36,12 @@ fn add_page<A: Validate>(
     requires few { length fans.now < 65536 }
     requires properties { length properties.now ≡ sum fans.now }
     requires objects { length objects.now ≡ sum fans.now }
-    ensures step { Outcome (A.Validate.ledger validator.old) (triples_of (length fans.now) (rows fans.now properties.now objects.now)) 0 (A.Validate.ledger validator.new) result }
-    ensures sound { Keeps (A.Validate.schema validator.old) (A.Validate.ledger validator.old) (A.Validate.verdicts validator.old) (A.Validate.ledger validator.new) (A.Validate.verdicts validator.new) }
-    ensures kept { A.Validate.schema validator.new ≡ A.Validate.schema validator.old }
+    ensures step { Outcome (A.Validate.state validator.old).ledger (triples_of (length fans.now) (rows fans.now properties.now objects.now)) 0 (A.Validate.state validator.new).ledger result }
+    ensures kept { Keeps (A.Validate.state validator.old) (A.Validate.state validator.new) }
 {
     let mut at = 0;
     for (node, fan) in fans.iter().enumerate() {
-        let end = at + *fan as usize;
+        let end = at + usize::from(*fan);
         add_node(
             validator,
             node as u16,
@@ -69,15 +64,14 @@ fn add_node<A: Validate>(
 ) -> Result<(), Entry>
     requires level { length objects.now ≡ length properties.now }
     requires fits { start + length properties.now < 18446744073709551616 }
-    ensures step { Outcome (A.Validate.ledger validator.old) (of_node node (pairs properties.now objects.now)) start (A.Validate.ledger validator.new) result }
-    ensures sound { Keeps (A.Validate.schema validator.old) (A.Validate.ledger validator.old) (A.Validate.verdicts validator.old) (A.Validate.ledger validator.new) (A.Validate.verdicts validator.new) }
-    ensures kept { A.Validate.schema validator.new ≡ A.Validate.schema validator.old }
+    ensures step { Outcome (A.Validate.state validator.old).ledger (of_node node (pairs properties.now objects.now)) start (A.Validate.state validator.new).ledger result }
+    ensures kept { Keeps (A.Validate.state validator.old) (A.Validate.state validator.new) }
 {
-    for i in 0..properties.len() {
+    for (i, (property, object)) in properties.iter().zip(objects).enumerate() {
         let triple = Triple {
             subject: node,
-            property: properties[i],
-            object: objects[i] as u16,
+            property: *property,
+            object: u16::from(*object),
         };
         add_entry(validator, start + i, triple)?;
     }
@@ -86,12 +80,8 @@ fn add_node<A: Validate>(
 
 // The add of one entry, whose fault keeps the entry's number.
 fn add_entry<A: Validate>(validator: &mut A, at: usize, triple: Triple) -> Result<(), Entry>
-    ensures step { Outcome (A.Validate.ledger validator.old) ((triple.subject, triple.property, triple.object) ∷ []) at (A.Validate.ledger validator.new) result }
-    ensures sound { Keeps (A.Validate.schema validator.old) (A.Validate.ledger validator.old) (A.Validate.verdicts validator.old) (A.Validate.ledger validator.new) (A.Validate.verdicts validator.new) }
-    ensures kept { A.Validate.schema validator.new ≡ A.Validate.schema validator.old }
+    ensures step { Outcome (A.Validate.state validator.old).ledger ((triple.subject, triple.property, triple.object) ∷ []) at (A.Validate.state validator.new).ledger result }
+    ensures kept { Keeps (A.Validate.state validator.old) (A.Validate.state validator.new) }
 {
-    match validator.add(triple) {
-        Ok(()) => Ok(()),
-        Err(fault) => Err(Entry { at, fault }),
-    }
+    validator.add(triple).map_err(|fault| Entry { at, fault })
 }

@@ -16,13 +16,14 @@ pub fn save<S: Store>(store: &S, page: &mut [u8]) -> Result<usize, PageFault>
 {
     store.lawful();
     let nodes = store.node_count();
-    let fans_end = 2 + nodes as usize;
-    let length = fans_end + 2 * store.total() as usize;
+    let fans_end = 2 + usize::from(nodes);
+    let length = fans_end + 2 * usize::from(store.total());
     if page.len() < length {
         return Err(PageFault::SmallBuffer);
     }
-    page[0] = (nodes % 256) as u8;
-    page[1] = (nodes / 256) as u8;
+    let [low, high] = nodes.to_le_bytes();
+    page[0] = low;
+    page[1] = high;
     write_fans(store, &mut page[2..fans_end]);
     write_arcs(store, &mut page[fans_end..length]);
     Ok(length)
@@ -32,8 +33,9 @@ fn write_fans<S: Store>(store: &S, fans: &mut [u8])
     requires { length fans.old ≡ S.Store.nodes store.now }
     ensures { fans.new ≡ fans_of (S.Store.nodes store.now) (S.Store.arcs store.now) }
 {
-    for node in 0..store.node_count() {
-        fans[node as usize] = store.fan(node);
+    store.lawful();
+    for (node, fan) in fans.iter_mut().enumerate() {
+        *fan = store.fan(node as u16);
     }
 }
 
@@ -56,13 +58,14 @@ fn write_node<S: Store>(store: &S, node: u16, arcs: &mut [u8], at: usize) -> usi
     ensures after { (buffer : List ℕ) (done : List Arc) → length buffer ≡ length arcs.old → at ≡ length done → arcs.old ≡ laid buffer (total (S.Store.nodes store.now) (S.Store.arcs store.now)) done → arcs.new ≡ laid buffer (total (S.Store.nodes store.now) (S.Store.arcs store.now)) (done ++ S.Store.arcs store.now node) }
 {
     store.lawful();
-    let total = store.total() as usize;
+    let total = usize::from(store.total());
     let fan = store.fan(node);
     for place in 0..fan {
         if let Some((property, object)) = store.arc(node, place) {
-            arcs[at + place as usize] = property;
-            arcs[total + at + place as usize] = object as u8;
+            let spot = at + usize::from(place);
+            arcs[spot] = property;
+            arcs[total + spot] = object as u8;
         }
     }
-    at + fan as usize
+    at + usize::from(fan)
 }

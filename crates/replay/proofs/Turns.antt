@@ -1,33 +1,30 @@
 -- Runs with one more call. Assumes nothing.
-use Rattle.std.proofs.Common.{◌≡◌, ℕ, ◌+◌, ◌-◌, ◌<◌, ◌≤◌, true, ◌&&◌, leb, List, [], ◌∷◌, ◌++◌, length, get_or, take, drop, set, Result, sym, ap, ◌∙◌, subst, arith}
+use Rattle.std.proofs.Common.{◌≡◌, ℕ, ◌+◌, ◌-◌, ◌<◌, ◌≤◌, List, [], ◌∷◌, ◌++◌, length, get_or, take, drop, set, Ok, Result, sym, ap, ◌∙◌, subst, arith}
 use borrow.Rule.Slice.PartMut.{put_mid}
 use Rattle.std.proofs.lemmas.List.{append_assoc, append-nil, length-take-le, length-drop, take-append-drop, take_more_set, drop_more, drop-drop, drop_all}
 use Rattle.std.proofs.lemmas.Slice.{take-put_mid, drop-put_mid}
-use Rattle.std.proofs.lemmas.Bool.{and_parts, leb-true}
+use Rattle.std.proofs.lemmas.List.Sums.{sum_by_more, sum_by_more_le}
+use Rattle.std.proofs.lemmas.Bool.Decides.{nat_tests}
 use Rattle.refusal.specs.Refusals.{Refusal}
 use Rattle.shapes.specs.Expr.{Schema}
 use Rattle.ledger.specs.Ledger.{Ledger}
-use Rattle.ledger.specs.Sound.{Sound}
 use Rattle.ledger.specs.Steps.{SweepStep}
-use Rattle.validate.specs.Promise.{Under, Keeps}
+use Rattle.validate.specs.Promise.{State, Under, Keeps}
+use Rattle.validate.proofs.Keeping.{under_later}
 use Rattle.replay.specs.declared.call.Sweep.{Sweep}
 use Rattle.replay.specs.declared.call.Call.{Call}
 use Rattle.replay.specs.declared.call.Call.TheVariants as call
 use Rattle.replay.specs.declared.call.Answer.{Answer}
 use Rattle.replay.specs.declared.call.Answer.TheVariants as answer
-use Rattle.replay.specs.Runs.{proposed, lent, all_lent, reply, Step, sweep, Runs, done, then}
+use Rattle.replay.specs.Runs.{proposed, lent, all_lent, reply, room_for, Step, sweep, Runs, done, then}
 
--- what the calls from i on are lent
-pub lent_more : (calls : List Call) (i room : ℕ) (x : Call) → i < length calls → room ≡ lent (get_or calls i x) → all_lent (drop i calls) ≡ room + all_lent (drop (i + 1) calls)
-lent_more calls i room x h e = ap all_lent (drop_more calls i x h) ∙ ap (λ n. n + all_lent (drop (i + 1) calls)) (sym e)
+-- the call at i takes its room after the calls before it
+pub lent_more : (calls : List Call) (i room : ℕ) (x : Call) → i < length calls → room ≡ lent (get_or calls i x)
+    → (all_lent (take (i + 1) calls) ≡ all_lent (take i calls) + room) × (all_lent (take i calls) + room ≤ all_lent calls)
+lent_more calls i room x h e = (sum_by_more lent calls i x h ∙ ap (λ n. all_lent (take i calls) + n) (sym e), omega (arith, sum_by_more_le lent calls i x h, e))
 
-pub within : (calls : List Call) (i at room m : ℕ) (x : Call) → i < length calls → room ≡ lent (get_or calls i x) → at + all_lent (drop i calls) ≡ all_lent calls → all_lent calls ≤ m → at + room ≤ m
-within calls i at room m x h e spent fits = omega (arith, lent_more calls i room x h e, spent)
-
-pub both_fit : (calls : List Call) (answers bytes : ℕ) → true ≡ (leb (length calls) answers && leb (all_lent calls) bytes) → (length calls ≤ answers) × (all_lent calls ≤ bytes)
-both_fit calls answers bytes e =
-    let parts = and_parts (leb (length calls) answers) (leb (all_lent calls) bytes) (sym e) in
-    (leb-true _ _ parts.0, leb-true _ _ parts.1)
+pub both_fit : (calls : List Call) (answers bytes : ℕ) → Ok tt ≡ room_for calls answers bytes → (length calls ≤ answers) × (all_lent calls ≤ bytes)
+both_fit calls answers bytes e = (grind (arith, nat_tests), grind (arith, nat_tests))
 
 pub drop_later : {X : Type 0} (xs ys : List X) (n m : ℕ) → n ≤ m → drop n xs ≡ drop n ys → drop m xs ≡ drop m ys
 drop_later {X} xs ys n m h e =
@@ -82,13 +79,11 @@ module _ (calls : List Call) (answers : List Answer) (tables part' : List ℕ) (
       subst (λ z. Runs S σ b calls z before (take end (put_mid at k tables part') ++ after) b') answers_same
       (subst (λ z. Runs S σ b calls (take i answers ++ (a ∷ os)) before z b') tables_same (on (a ∷ os) (part' ++ after) b' here))
 
-  -- for every stratification; T is the schema at the call
-  pub turn : (S T : Schema) → T ≡ S → (b m m' : Ledger) (held was now before : List ℕ)
-      → Under T m was (λ σ. Step T σ m (get_or calls i x) a (take k (drop at tables)) part' m') → Keeps T m was m' now
-      → Under S b held (λ σ. Sound S σ m was × GoesOn S σ b calls answers before tables i at m)
-      → Under S b held (λ σ. Sound S σ m' now × GoesOn S σ b calls (set answers i a) before (put_mid at k tables part') (i + 1) end m')
-  turn S T same b m m' held was now before step keeps on σ st sound =
-      let here = on σ st sound in (
-        subst (λ T. Keeps T m was m' now) same keeps σ st here.0,
-        goes_more S σ b m m' before (subst (λ T. Under T m was (λ σ. Step T σ m (get_or calls i x) a (take k (drop at tables)) part' m')) same step σ st here.0) here.1,
-      )
+  -- for every stratification
+  pub turn : (s m m' : State) (before : List ℕ) → Keeps s m
+      → Under m (λ σ. Step m.schema σ m.ledger (get_or calls i x) a (take k (drop at tables)) part' m'.ledger)
+      → Under s (λ σ. GoesOn s.schema σ s.ledger calls answers before tables i at m.ledger)
+      → Under s (λ σ. GoesOn s.schema σ s.ledger calls (set answers i a) before (put_mid at k tables part') (i + 1) end m'.ledger)
+  turn s m m' before kept step on σ stratified sound =
+      goes_more s.schema σ s.ledger m.ledger m'.ledger before
+      (under_later (λ S ρ. Step S ρ m.ledger (get_or calls i x) a (take k (drop at tables)) part' m'.ledger) s m kept step σ stratified sound) (on σ stratified sound)

@@ -1,13 +1,14 @@
 -- What a list of calls does to the ledger, and what it answers. Assumes nothing.
 --     proposed w         the strata that a sweep proposes
 --     lent c             how many bytes of table a call is lent; all_lent, those of a list of calls together
+--     room_for cs n m    whether n answers and m bytes of table are enough for a list of calls, or else what is short
 --     reply f r          the answer r of the ledger as a value: f of what it gives, or the layer and the number of its refusal
 --     Step S σ b c a part part' b'
 --                        the call c takes the ledger b to b', is answered by a, and makes part' of the bytes that it is lent
 --     Runs S σ b cs os tables tables' b'
 --                        the calls in their order do so, each lent the bytes after those of the calls before; later bytes stay
 --     Best S G σ         for each stratum the typing up to it is correct, and has every correct typing that agrees with it on the labels below
-use Rattle.std.specs.Prelude.{◌≡◌, ℕ, suc, ◌+◌, Bool, List, [], ◌∷◌, ◌++◌, length, take, Ok, Err, Option, Result}
+use Rattle.std.specs.Prelude.{◌≡◌, ℕ, suc, Bool, cond, List, [], ◌∷◌, ◌++◌, length, take, Ok, Err, sum_by, Option, Result, nat_lt}
 use Rattle.refusal.specs.Refusals.{Refusal}
 use Rattle.triple.specs.declared.store.Triple.{Triple}
 use Rattle.shapes.specs.Expr.{Schema}
@@ -19,6 +20,8 @@ use Rattle.replay.specs.declared.call.Call.{Call}
 use Rattle.replay.specs.declared.call.Call.TheVariants as call
 use Rattle.replay.specs.declared.call.Answer.{Answer}
 use Rattle.replay.specs.declared.call.Answer.TheVariants as answer
+use Rattle.replay.specs.declared.run.Short.{Short}
+use Rattle.replay.specs.declared.run.Short.TheVariants.{Answers, Tables}
 
 abbrev pub proposed : Sweep → List ℕ
 proposed w = take w.given w.strata
@@ -31,8 +34,10 @@ lent (call.Held n l) = 0
 lent (call.Sweep w) = w.room
 
 abbrev pub all_lent : List Call → ℕ
-all_lent [] = 0
-all_lent (c ∷ cs) = lent c + all_lent cs
+all_lent cs = sum_by lent cs
+
+abbrev pub room_for : List Call → (answers bytes : ℕ) → Result (Unit {0}) Short
+room_for cs answers bytes = cond (nat_lt answers (length cs)) (Err Answers) (cond (nat_lt bytes (all_lent cs)) (Err Tables) (Ok tt))
 
 abbrev pub reply : {A : Type 0} → (A → Answer) → Result A Refusal → Answer
 reply f (Ok x) = f x

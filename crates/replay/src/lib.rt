@@ -7,7 +7,7 @@ mod call;
 mod run;
 
 pub use call::{Answer, Call, Sweep};
-pub use run::replay;
+pub use run::{Short, replay};
 
 /// What the ledger answers, and the tables that it makes, rest on the calls alone: not on the order of the arcs,
 /// nor on the stratification.

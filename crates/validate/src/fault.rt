@@ -5,7 +5,7 @@ ghost use Rattle.validate.specs.declared.fault.ValidatorFault.TheVariants.{Store
 use std::fmt;
 use triple::StoreFault;
 
-#[derive(Clone, Copy)]
+#[derive(Clone, Copy, PartialEq, Eq, Debug)]
 pub enum ValidatorFault {
     NoSubject,
     NoObject,

@@ -8,7 +8,9 @@ use Rattle.shapes.specs.Leaning.{Reaches}
 use Rattle.shapes.specs.Typing.{In}
 use Rattle.shapes.proofs.Leaning.{reaches_agree}
 use Rattle.ledger.specs.Steps.{Edited}
-use Rattle.ledger.proofs.Keeping.{Elsewhere, agree_elsewhere}
+use Rattle.ledger.proofs.Keeping.{Elsewhere, agree_elsewhere, edit_sound}
+use Rattle.shapes.specs.Expr.{Schema}
+use Rattle.validate.specs.Promise.{Keeps}
 use Rattle.validator.specs.Books.{book}
 
 -- the store and the bytes before, and after
@@ -28,3 +30,9 @@ module _ (N C L : ℕ) (A : Lists) (literals : ℕ → Bool) (passes : ℕ → �
               λ h. (forgot n l).1 (subst (λ m. In (byte_typing m L held) n l) (sym same_nodes) h.0, λ r. h.1 (same.1 r)),
             );
       }
+
+  -- and the edit keeps what is held sound
+  pub edit_keeps : (S : Schema) (verdicts : List ℕ) → ((n : ℕ) → distinct (A n) ≡ true) → Elsewhere A s A' → Edited (book N C A literals passes L held) s (book N' C' A' literals passes L held')
+      → Keeps (record { schema = S; ledger = book N C A literals passes L held; verdicts = verdicts }) (record { schema = S; ledger = book N' C' A' literals passes L held'; verdicts = verdicts })
+  edit_keeps S verdicts apart elsewhere change =
+      record { schema = refl; sound = λ σ stratified. edit_sound S σ stratified (book N C A literals passes L held) (book N' C' A' literals passes L held') s verdicts apart elsewhere change }

@@ -1,5 +1,7 @@
 -- Pairs by their places in a table of bytes. Assumes nothing.
-use Rattle.std.proofs.Common.{◌≡◌, ℕ, zero, suc, ◌+◌, ◌*◌, ◌/◌, ◌<◌, ◌≤◌, Bool, true, false, cond, ◌&&◌, eqb, ltb, ◌↔◌, List, get_or, replicate, Decides, sym, refl, ap, ◌∙◌, ⊎_elim, div-lt_iff_lt-mul, mul-zero, arith}
+use Rattle.std.proofs.Common.{◌≡◌, ℕ, zero, suc, ◌+◌, ◌*◌, ◌/◌, ◌<◌, ◌≤◌, Bool, true, false, cond, ◌&&◌, eqb, ltb, ◌↔◌, List, length, get_or, take, replicate, Decides, sym, refl, ap, ◌∙◌, ⊎_elim, div-lt_iff_lt-mul, mul-zero, arith}
+use borrow.Rule.Slice.PartMut.{put_mid, post_of}
+use Rattle.std.proofs.lemmas.List.{get_or_append_left, get_or-take, length-take-le}
 use Rattle.std.proofs.lemmas.Nat.{mul-add-lt, mul-le, div-mul-add}
 use Rattle.std.proofs.lemmas.Bool.{lt-ltb, cases_Bool}
 use Rattle.std.proofs.lemmas.Bool.Decides.{Decides-and, Decides-eqb, Decides-ltb}
@@ -23,8 +25,19 @@ decides_shown nodes labels bytes n l =
     (Decides-and (ltb n nodes) (ltb l labels) (Decides-ltb n nodes) (Decides-ltb l labels))
     (Decides-eqb (get_or bytes (place labels n l) 0) 1)
 
+-- the first bytes of a table, after those of the marked nodes are cleared
+pub forgot_part : (size n labels : ℕ) (marks : List Bool) (held first part : List ℕ) → n ≡ size → size ≤ length held → first ≡ take size held → length part ≡ length first
+    → Forgot (length first) labels marks first part
+    → (k : ℕ) → k < size → get_or (put_mid 0 n held part) k 0 ≡ cond (get_or marks (k / labels) false) 0 (get_or held k 0)
+forgot_part size n labels marks held first part same room begins kept forgot k h =
+    let whole : length first ≡ size = ap length begins ∙ length-take-le size held room in
+    let here : get_or first k 0 ≡ get_or held k 0 = ap (λ (xs : List ℕ). get_or xs k 0) begins ∙ get_or-take size held k 0 h in
+    let inside : k < length part = omega arith in
+    get_or_append_left part (post_of 0 n held) 0 k inside ∙ forgot k ∙ rw (lt-ltb k (length first) (omega arith), here) refl
+
 -- after the bytes of the marked nodes are cleared, the pairs of the other nodes are left
-pub forgot_shown : (nodes labels : ℕ) (marks : List Bool) (held held' : List ℕ) → Forgot (nodes * labels) labels marks held held'
+pub forgot_shown : (nodes labels : ℕ) (marks : List Bool) (held held' : List ℕ)
+    → ((k : ℕ) → k < nodes * labels → get_or held' k 0 ≡ cond (get_or marks (k / labels) false) 0 (get_or held k 0))
     → (n l : ℕ) → In (byte_typing nodes labels held') n l ↔ (In (byte_typing nodes labels held) n l × (get_or marks n false ≡ false))
 forgot_shown nodes labels marks held held' forgot n l = (
   λ h. let at = (decides_shown nodes labels held' n l).0 h in
@@ -38,7 +51,7 @@ forgot_shown nodes labels marks held held' forgot n l = (
 )
   where
     byte : (n < nodes) × (l < labels) → get_or held' (place labels n l) 0 ≡ cond (get_or marks n false) 0 (get_or held (place labels n l) 0)
-    byte at = forgot (place labels n l) ∙ rw (lt-ltb (place labels n l) (nodes * labels) (place_below nodes labels n l at.0 at.1), div-mul-add n labels l at.1) refl
+    byte at = forgot (place labels n l) (place_below nodes labels n l at.0 at.1) ∙ rw (div-mul-add n labels l at.1) refl
 
 -- the byte of a pair that is there
 pub shown_byte : (nodes labels : ℕ) (bytes : List ℕ) (n l : ℕ) → n < nodes → l < labels → byte_typing nodes labels bytes n l ≡ eqb (get_or bytes (place labels n l) 0) 1
@@ -51,6 +64,10 @@ place_in_table nodes labels n l few less h k = omega (arith, mul-add-lt n labels
 -- a place, worked out from numbers that are the node, the labels and the label
 pub spot : (m n k labels j l : ℕ) → m ≡ n → k ≡ labels → j ≡ l → m * k + j ≡ place labels n l
 spot m n k labels j l e f g = ap (λ x. x * k + j) e ∙ ap (λ x. n * x + j) f ∙ ap (λ x. n * labels + x) g
+
+-- how many pairs there are, worked out from numbers that are the nodes and the labels
+pub cells : (m n k labels : ℕ) → m ≡ n → k ≡ labels → m * k ≡ n * labels
+cells m n k labels e f = ap (λ x. x * k) e ∙ ap (λ x. n * x) f
 
 -- a table of zeros shows no pair
 pub none_shown : (nodes labels size n l : ℕ) → byte_typing nodes labels (replicate size 0) n l ≡ false

@@ -1,14 +1,19 @@
 -- Bytes of pairs that are written together, and what is decided of them. Assumes nothing.
+--     Placed ..     the place of the byte of a pair that is there
 --     Forgot ..     the bytes of the nodes with a mark are cleared, and no other
 --     Joined ..     the bytes of the wanted pairs are set, and no other
 --     Written ..    the bytes of a table are the verdicts, 1 for yes and 0 for no; later bytes stay
 --     Widens ..     from right verdicts on K to right verdicts on K and W
 use Rattle.std.specs.Prelude.{◌≡◌, ℕ, ◌/◌, ◌<◌, Bool, false, cond, ◌&&◌, ◌⊎◌, ◌↔◌, List, ◌==◌, nat_lt, slice_index, slice_index_or}
+use Rattle.shapes.specs.Bytes.{place}
 use Rattle.shapes.specs.Expr.{Schema}
 use Rattle.shapes.specs.Leaning.{Closed, Reached}
 use Rattle.shapes.specs.References.{Stratification}
 use Rattle.shapes.specs.Typing.{Graph, Typing, In}
 use Rattle.refine.specs.Deciding.{either, Right, Ready}
+
+abbrev pub Placed : (nodes labels n l : ℕ) → ℕ → Type 0
+Placed nodes labels n l k = (n < nodes) × (l < labels) × (k ≡ place labels n l) × (k < 8192)
 
 abbrev pub Forgot : (size labels : ℕ) → List Bool → List ℕ → List ℕ → Type 0
 Forgot size labels marks held held' =

@@ -1,8 +1,11 @@
 // The calls on a validator.
+ghost use Rattle.std.specs.Prelude.{◌≡◌, Some, MatchResult};
+ghost use Rattle.ledger.specs.Ledger.{pair_refusal};
 ghost use Rattle.schema.specs.Accepted.{meaning};
+ghost use Rattle.validate.specs.Faults.{code};
 ghost use Rattle.validator.specs.Books.{book};
+ghost use Rattle.validator.specs.Marks.{Placed};
 
-use crate::decide::{decide_all, decide_reached};
 use crate::forget::forget_upstream;
 use crate::memory::Validator;
 use crate::write::write_table;
@@ -11,12 +14,26 @@ use triple::{Store, Triple};
 use validate::{Validate, ValidatorFault};
 use values::ValueTest;
 
+impl<S: Store + Drop, V: ValueTest + Drop> Validator<S, V> {
+    // The place of the pair's byte, or how the pair is refused.
+    fn place(&self, node: u16, label: u8) -> Result<usize, ValidatorFault>
+        ensures { MatchResult result (Placed (S.Store.nodes self.now.store) (meaning self.now.schema).labels node label) (λ fault. pair_refusal (⟦<Validator<S, V> as Validate>⟧.state self.now).schema (⟦<Validator<S, V> as Validate>⟧.state self.now).ledger node label ≡ Some (code fault)) }
+    {
+        if node >= self.store.node_count() {
+            return Err(ValidatorFault::NoNode);
+        }
+        let labels = self.schema.label_count();
+        if usize::from(label) >= labels {
+            return Err(ValidatorFault::NoLabel);
+        }
+        self.schema.lawful();
+        self.store.lawful();
+        Ok(usize::from(node) * labels + usize::from(label))
+    }
+}
+
 impl<S: Store + Drop, V: ValueTest + Drop> Validate for Validator<S, V> {
-    ghost schema = { λ v. meaning v.schema };
-
-    ghost ledger = { λ v. book (S.Store.nodes v.store) (S.Store.capacity v.store) (S.Store.arcs v.store) (V.ValueTest.literals v.values) (V.ValueTest.passes v.values) (meaning v.schema).labels v.held };
-
-    ghost verdicts = { λ v. v.verdicts };
+    ghost state = { λ v. record { schema = meaning v.schema; ledger = book (S.Store.nodes v.store) (S.Store.capacity v.store) (S.Store.arcs v.store) (V.ValueTest.literals v.values) (V.ValueTest.passes v.values) (meaning v.schema).labels v.memory.held; verdicts = v.memory.verdicts } };
 
     fn node_count(&self) -> u16 {
         self.store.node_count()
@@ -44,7 +61,7 @@ impl<S: Store + Drop, V: ValueTest + Drop> Validate for Validator<S, V> {
             &self.store,
             self.schema.label_count(),
             triple.subject,
-            &mut self.held,
+            &mut self.memory.held,
         );
         Ok(())
     }
@@ -59,49 +76,26 @@ impl<S: Store + Drop, V: ValueTest + Drop> Validate for Validator<S, V> {
             &self.store,
             self.schema.label_count(),
             subject,
-            &mut self.held,
+            &mut self.memory.held,
         );
         Ok(())
     }
 
     fn look(&mut self, node: u16, label: u8) -> Result<bool, ValidatorFault> {
-        if node >= self.store.node_count() {
-            return Err(ValidatorFault::NoNode);
-        }
-        let labels = self.schema.label_count();
-        if usize::from(label) >= labels {
-            return Err(ValidatorFault::NoLabel);
-        }
-        self.schema.lawful();
-        self.store.lawful();
-        decide_reached(
+        let place = self.place(node, label)?;
+        self.memory.decide_reached(
             &self.schema,
             &self.store,
             &self.values,
             Goal { node, label },
-            &mut self.held,
-            &mut self.verdicts,
-            &mut self.wanted,
-            &mut self.goals,
-            &mut self.scratch,
         );
-        let place = usize::from(node) * labels + usize::from(label);
-        Ok(self.verdicts[place] == 1)
+        Ok(self.memory.verdicts[place] == 1)
     }
 
     fn held(&self, node: u16, label: u8) -> Result<Option<bool>, ValidatorFault> {
-        if node >= self.store.node_count() {
-            return Err(ValidatorFault::NoNode);
-        }
-        let labels = self.schema.label_count();
-        if usize::from(label) >= labels {
-            return Err(ValidatorFault::NoLabel);
-        }
-        self.schema.lawful();
-        self.store.lawful();
-        let place = usize::from(node) * labels + usize::from(label);
-        if self.held[place] == 1 {
-            Ok(Some(self.verdicts[place] == 1))
+        let place = self.place(node, label)?;
+        if self.memory.held[place] == 1 {
+            Ok(Some(self.memory.verdicts[place] == 1))
         } else {
             Ok(None)
         }
@@ -121,15 +115,8 @@ impl<S: Store + Drop, V: ValueTest + Drop> Validate for Validator<S, V> {
         if table.len() < size {
             return Err(ValidatorFault::ShortTable);
         }
-        decide_all(
-            &self.schema,
-            &self.store,
-            &self.values,
-            &mut self.held,
-            &mut self.verdicts,
-            &mut self.wanted,
-            &mut self.scratch,
-        );
-        Ok(write_table(size, &self.verdicts, table))
+        self.memory
+            .decide_all(&self.schema, &self.store, &self.values);
+        Ok(write_table(size, &self.memory.verdicts, table))
     }
 }

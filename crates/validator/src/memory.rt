@@ -11,19 +11,24 @@ use triple::Store;
 use values::ValueTest;
 
 // A byte for each pair of at most 256 nodes and 32 labels.
-const PAIRS: usize = 8192;
+pub(crate) const PAIRS: usize = 8192;
 
 // A pair is held if its byte in `held` is 1; then its byte in `verdicts` is 1 for yes. The rest is memory to work in.
 #[derive(Drop)]
-pub struct Validator<S: Store + Drop, V: ValueTest + Drop> {
-    pub(crate) schema: Schema,
-    pub(crate) store: S,
-    pub(crate) values: V,
+pub(crate) struct Memory {
     pub(crate) held: [u8; PAIRS],
     pub(crate) verdicts: [u8; PAIRS],
     pub(crate) wanted: [u8; PAIRS],
     pub(crate) goals: [Goal; PAIRS],
     pub(crate) scratch: Scratch,
+}
+
+#[derive(Drop)]
+pub struct Validator<S: Store + Drop, V: ValueTest + Drop> {
+    pub(crate) schema: Schema,
+    pub(crate) store: S,
+    pub(crate) values: V,
+    pub(crate) memory: Memory,
 }
 
 impl<S: Store + Drop, V: ValueTest + Drop> Validator<S, V> {
@@ -32,18 +37,21 @@ impl<S: Store + Drop, V: ValueTest + Drop> Validator<S, V> {
         ensures schema { result.schema ≡ schema }
         ensures store { result.store ≡ store }
         ensures values { result.values ≡ values }
-        ensures ledger { book (S.Store.nodes store) (S.Store.capacity store) (S.Store.arcs store) (V.ValueTest.literals values) (V.ValueTest.passes values) (meaning schema).labels result.held ≡ opening (S.Store.nodes store) (S.Store.capacity store) (S.Store.arcs store) (V.ValueTest.literals values) (V.ValueTest.passes values) }
-        ensures sound { (σ : ℕ → ℕ) → Sound (meaning schema) σ (opening (S.Store.nodes store) (S.Store.capacity store) (S.Store.arcs store) (V.ValueTest.literals values) (V.ValueTest.passes values)) result.verdicts }
+        ensures ledger { book (S.Store.nodes store) (S.Store.capacity store) (S.Store.arcs store) (V.ValueTest.literals values) (V.ValueTest.passes values) (meaning schema).labels result.memory.held ≡ opening (S.Store.nodes store) (S.Store.capacity store) (S.Store.arcs store) (V.ValueTest.literals values) (V.ValueTest.passes values) }
+        ensures sound { (σ : ℕ → ℕ) → Sound (meaning schema) σ (opening (S.Store.nodes store) (S.Store.capacity store) (S.Store.arcs store) (V.ValueTest.literals values) (V.ValueTest.passes values)) result.memory.verdicts }
     {
-        Validator {
-            schema,
-            store,
-            values,
+        let memory = Memory {
             held: [0; PAIRS],
             verdicts: [0; PAIRS],
             wanted: [0; PAIRS],
             goals: [Goal { node: 0, label: 0 }; PAIRS],
             scratch: Scratch::new(),
+        };
+        Validator {
+            schema,
+            store,
+            values,
+            memory,
         }
     }
 

@@ -10,14 +10,8 @@ pub(crate) fn write_table(size: usize, verdicts: &[u8], table: &mut [u8]) -> usi
     ensures after { Written size verdicts.now table.old table.new }
     ensures value { result ≡ ones (take size table.new) }
 {
-    let mut count = 0;
-    for place in 0..size {
-        if verdicts[place] == 1 {
-            table[place] = 1;
-            count += 1;
-        } else {
-            table[place] = 0;
-        }
+    for (place, verdict) in verdicts[..size].iter().enumerate() {
+        table[place] = u8::from(*verdict == 1);
     }
-    count
+    table[..size].iter().filter(|byte| **byte == 1).count()
 }

@@ -1,4 +1,4 @@
-use Rattle.std.proofs.Common.{◌≡◌, ◌+◌, ◌<◌, length, get_or, Ok, sum, sym, ap, ◌∙◌, arith}
+use Rattle.std.proofs.Common.{◌≡◌, ◌+◌, ◌<◌, length, take, Ok, sum, sym, ap, ◌∙◌, arith}
 use Rattle.std.proofs.lemmas.List.{take_all, drop_all}
 use Rattle.std.proofs.lemmas.List.Sums.{sum_by_more}
 use Rattle.page.specs.Loading.{wide}
@@ -19,7 +19,7 @@ loop-node-preserved c =
     let i = c.loop-node.node in
     let h : i < length fans = omega arith in
     let low = c.if-fan-gt-MAX_FAN.false in (
-      ap (λ k. k + get_or fans i 0) c.loop-node.invariant.0 ∙ sym (sum_by_more (λ x. x) fans i 0 h),
+      ap (λ k. k + c.from-total.result) c.loop-node.invariant.0 ∙ ap (λ k. sum (take i fans) + k) c.from-total.ensures ∙ sym (sum_by_more (λ x. x) fans i 0 h),
       omega (arith, c.loop-node.invariant.1, low),
       omega (arith, c.loop-node.invariant.2, wide_past fans i h low),
     )

@@ -1,13 +1,6 @@
-use Rattle.std.proofs.Common.{sym, add-zero}
-use Rattle.page.specs.Loading.{none, more, here}
+use Rattle.std.proofs.Common.{rules}
+use Rattle.page.proofs.Adding.{added_or_stopped}
 use Rattle.page.proofs.read.add_entry.Goals as goal
 
-pub returns-in-Ok : goal.returns-in-Ok
-returns-in-Ok g c =
-    let e = c.in-Ok.ensures in
-    record { step = more e.step none; sound = e.sound; kept = e.kept }
-
-pub returns-in-Err : goal.returns-in-Err
-returns-in-Err g c =
-    let e = c.in-Err.ensures in
-    record { step = (0, sym (add-zero c.args.at), here e.step); sound = e.sound; kept = e.kept }
+pub returns-clause-step : goal.returns-clause-step
+returns-clause-step g c = added_or_stopped _ _ _ _ _ _ c.add.result c.map_err.result _ c.add.ensures.step c.map_err.ensures.cases (λ e y post. search rules)

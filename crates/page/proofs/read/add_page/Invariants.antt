@@ -9,6 +9,5 @@ use Rattle.page.proofs.read.add_page.Given as goal
 abbrev pub invariant-loop-node : goal.invariant-loop-node
 invariant-loop-node g l =
     (l.at ≡ sum (take l.node l.fans))
-    × Adds (g.A.Validate.ledger l.initial.validator) (triples_of l.node (rows l.fans l.properties l.objects)) (g.A.Validate.ledger l.validator)
-    × Keeps (g.A.Validate.schema l.initial.validator) (g.A.Validate.ledger l.initial.validator) (g.A.Validate.verdicts l.initial.validator) (g.A.Validate.ledger l.validator) (g.A.Validate.verdicts l.validator)
-    × (g.A.Validate.schema l.validator ≡ g.A.Validate.schema l.initial.validator)
+    × Adds (g.A.Validate.state l.initial.validator).ledger (triples_of l.node (rows l.fans l.properties l.objects)) (g.A.Validate.state l.validator).ledger
+    × Keeps (g.A.Validate.state l.initial.validator) (g.A.Validate.state l.validator)

@@ -3,6 +3,9 @@ use Rattle.page.specs.Format.{fans_of, over}
 use Rattle.page.proofs.Laid.{over_push, over_whole, length_fans}
 use Rattle.page.proofs.write.write_fans.Goals as goal
 
+pub overflow_cast-node : goal.overflow_cast-node
+overflow_cast-node g c = omega (arith, c.lawful.ensures.small)
+
 pub loop-node-preserved : goal.loop-node-preserved
 loop-node-preserved g c =
     let arcs = g.S.Store.arcs c.args.store.now in

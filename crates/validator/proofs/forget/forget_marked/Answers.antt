@@ -3,4 +3,4 @@ use Rattle.validator.proofs.Places.{row_below}
 use Rattle.validator.proofs.forget.forget_marked.Goals as goal
 
 pub bounds-marks-place : goal.bounds-marks-place
-bounds-marks-place c = omega (arith, row_below c.args.nodes c.args.labels c.loop-place.place c.loop-place-test.true)
+bounds-marks-place c = omega (arith, row_below 256 c.args.labels c.loop-place.place (omega arith))

@@ -6,36 +6,31 @@ use Rattle.checker.proofs.Typings.{inside_member}
 use Rattle.shapes.proofs.Leaning.{bounded_closed}
 use Rattle.ledger.specs.Steps.{SweepStep, ones}
 use Rattle.schema.specs.Accepted.{meaning}
+use Rattle.validate.proofs.Keeping.{keeps_none}
 use Rattle.validator.specs.Marks.{Written}
+use Rattle.validator.proofs.Places.{cells}
 use Rattle.validator.proofs.Sweeping.{sweep_step, sweep_sound}
 use Rattle.validator.proofs.calls.ValidatorValidate.sweep.Goals as goal
 
 pub returns-then-strata-labels : goal.returns-then-strata-labels
-returns-then-strata-labels g c = record { step = λ σ stratified sound. SweepStep.few_strata (omega (arith, c.label_count-labels.ensures)); sound = λ σ stratified sound. sound; kept = refl }
+returns-then-strata-labels g c = record { step = λ σ stratified sound. SweepStep.few_strata (omega (arith, c.label_count-labels.ensures)); kept = keeps_none _ }
 
 pub returns-then-not-stratifies : goal.returns-then-not-stratifies
 returns-then-not-stratifies g c =
-    record { step = λ σ stratified sound. SweepStep.no_strata (omega (arith, c.label_count-labels.ensures)) (λ p. both_ways _ c.if-not-stratifies.true (c.stratifies.ensures.1 p)); sound = λ σ stratified sound. sound; kept = refl }
+    record { step = λ σ stratified sound. SweepStep.no_strata (omega (arith, c.label_count-labels.ensures)) (λ p. both_ways _ c.if-not-stratifies.true (c.stratifies.ensures.1 p)); kept = keeps_none _ }
 
 pub returns-then-table-size : goal.returns-then-table-size
 returns-then-table-size g c =
     let N = g.S.Store.nodes c.args.self.now.store in
     let L = (meaning c.args.self.now.schema).labels in
-    let size : c.from.result * c.label_count-labels.result ≡ N * L = ap (λ m. m * c.label_count-labels.result) (c.from.ensures ∙ c.node_count.ensures) ∙ ap (λ m. N * m) c.label_count-labels.ensures in
-    record { step = λ σ stratified sound. SweepStep.short_table (omega (arith, c.label_count-labels.ensures)) (c.stratifies.ensures.0 c.if-not-stratifies.false) (omega (arith, size)); sound = λ σ stratified sound. sound; kept = refl }
-
-pub decide_all-requires : goal.decide_all-requires
-decide_all-requires g c =
-    let N = g.S.Store.nodes c.args.self.now.store in
-    let L = (meaning c.args.self.now.schema).labels in
-    let size : N * L ≤ 8192 = mul-le N L 256 32 c.lawful-2.ensures.small c.lawful.ensures.rows.few_labels in
-    record { held_long = omega (arith, size); wanted_long = omega (arith, size); verdicts_long = omega (arith, size) }
+    let size : c.from.result * c.label_count-labels.result ≡ N * L = cells _ _ _ _ (c.from.ensures ∙ c.node_count.ensures) c.label_count-labels.ensures in
+    record { step = λ σ stratified sound. SweepStep.short_table (omega (arith, c.label_count-labels.ensures)) (c.stratifies.ensures.0 c.if-not-stratifies.false) (omega (arith, size)); kept = keeps_none _ }
 
 pub write_table-requires : goal.write_table-requires
 write_table-requires g c =
     let N = g.S.Store.nodes c.args.self.now.store in
     let L = (meaning c.args.self.now.schema).labels in
-    let size : c.from.result * c.label_count-labels.result ≡ N * L = ap (λ m. m * c.label_count-labels.result) (c.from.ensures ∙ c.node_count.ensures) ∙ ap (λ m. N * m) c.label_count-labels.ensures in
+    let size : c.from.result * c.label_count-labels.result ≡ N * L = cells _ _ _ _ (c.from.ensures ∙ c.node_count.ensures) c.label_count-labels.ensures in
     record { verdicts_long = omega (arith, size, mul-le N L 256 32 c.lawful-2.ensures.small c.lawful.ensures.rows.few_labels); table_long = omega arith }
 
 pub returns : goal.returns
@@ -47,17 +42,16 @@ returns g c =
     let A = g.S.Store.arcs v.store in
     let literals = g.V.ValueTest.literals v.values in
     let passes = g.V.ValueTest.passes v.values in
-    let held = c.decide_all.new.held in
-    let verdicts = c.decide_all.new.verdicts in
+    let held = c.decide_all.new.self.held in
+    let verdicts = c.decide_all.new.self.verdicts in
     let table = c.write_table.new.table in
-    let size : c.from.result * c.label_count-labels.result ≡ N * S.labels = ap (λ m. m * c.label_count-labels.result) (c.from.ensures ∙ c.node_count.ensures) ∙ ap (λ m. N * m) c.label_count-labels.ensures in
+    let size : c.from.result * c.label_count-labels.result ≡ N * S.labels = cells _ _ _ _ (c.from.ensures ∙ c.node_count.ensures) c.label_count-labels.ensures in
     let written = subst (λ m. Written m verdicts c.args.table.now table) size c.write_table.ensures.after in
     let counted = subst (λ m. c.write_table.result ≡ ones (take m table)) size c.write_table.ensures.value in
     let bounded = bounded_closed S (graph_of N A passes) (record { few = c.lawful.ensures.rows.few_labels; known = c.lawful.ensures.rows.known }) (λ n p o h m. inside_member N (A n) p o (c.lawful-2.ensures.within n) m) in
     record {
       step = λ σ stratified sound.
-          sweep_step S N C A literals passes v.held v.verdicts held verdicts c.decide_all.ensures σ stratified sound c.args.table.now table c.write_table.auto.table written
+          sweep_step S N C A literals passes v.memory.held v.memory.verdicts held verdicts c.decide_all.ensures σ stratified sound c.args.table.now table c.write_table.auto.table written
           c.args.strata.now c.write_table.result (omega (arith, c.label_count-labels.ensures)) (c.stratifies.ensures.0 c.if-not-stratifies.false) (omega (arith, size)) counted;
-      sound = λ σ stratified sound. sweep_sound S N C A literals passes v.held v.verdicts held verdicts c.decide_all.ensures σ stratified sound bounded;
-      kept = refl;
+      kept = record { schema = refl; sound = λ σ stratified sound. sweep_sound S N C A literals passes v.memory.held v.memory.verdicts held verdicts c.decide_all.ensures σ stratified sound bounded };
     }
