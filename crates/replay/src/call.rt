@@ -4,7 +4,7 @@ ghost use Rattle.validate.specs.Faults.{code};
 ghost use Rattle.replay.specs.Runs.{lent, proposed};
 ghost use Rattle.replay.specs.declared.call.Answer.TheVariants.{Refused};
 
-use refusal::Layer;
+use refusal::{Fault, Layer};
 use triple::Triple;
 use validate::ValidatorFault;
 

@@ -7,7 +7,6 @@ ghost use Rattle.validate.specs.Promise.{Under, Keeps};
 ghost use Rattle.replay.specs.Runs.{all_lent, reply, room_for, Step, Runs, Best};
 
 use crate::call::{Answer, Call};
-use refusal::Fault;
 use validate::{Validate, ValidatorFault};
 
 /// What there is too little of for a list of calls.

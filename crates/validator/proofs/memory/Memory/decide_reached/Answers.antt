@@ -1,6 +1,6 @@
-use Rattle.std.proofs.Common.{◌≡◌, ◌*◌, ◌≤◌, true, length, get_or, sym, ap, ◌∙◌, subst, arith}
+use Rattle.std.proofs.Common.{◌≡◌, ◌*◌, ◌≤◌, true, length, get_or, is_ok, OnOk, Ok, Err, Result, sym, ap, ◌∙◌, subst, arith}
 use Rattle.std.proofs.lemmas.Nat.{mul-le}
-use Rattle.std.proofs.lemmas.Bool.{and_from, lt-ltb, le-leb}
+use Rattle.std.proofs.lemmas.Bool.{and_from, lt-ltb, le-leb, true≢false}
 use Rattle.node_check.specs.Answers.{graph}
 use Rattle.draft.specs.Tables.{schema_of}
 use Rattle.leaning.specs.Pairs.{accepted}
@@ -10,6 +10,11 @@ use Rattle.schema.specs.Accepted.{meaning}
 use Rattle.validator.proofs.Places.{spot, place_in_table, decides_shown}
 use Rattle.validator.proofs.Widening.{joined_shown, looked_at, looked_held}
 use Rattle.validator.proofs.memory.Memory.decide_reached.Goals as goal
+
+-- what a search that is not refused promises
+when_ok : {A E Q : Type 0} (r : Result A E) → is_ok r ≡ true → OnOk r Q → Q
+when_ok (Ok x) e h = h
+when_ok (Err x) e h = absurd (true≢false (sym e))
 
 pub returns : goal.returns
 returns g c =
@@ -26,8 +31,8 @@ returns g c =
     let goals_room : N * S.labels ≤ length c.args.self.now.goals = omega (arith, room) in
     let fits : accepted N S.labels (length held) (length c.args.self.now.wanted) (length c.args.self.now.goals) n l ≡ true =
     and_from _ _ (lt-ltb n N c.requires.0) (and_from _ _ (lt-ltb l S.labels c.requires.1) (and_from _ _ (le-leb (N * S.labels) (length held) held_room) (and_from _ _ (le-leb (N * S.labels) (length c.args.self.now.wanted) wanted_room) (le-leb (N * S.labels) (length c.args.self.now.goals) goals_room)))) in
-    let answer = subst (λ t. c.reach.result ≡ accepted N (schema_of t).labels (length held) (length c.args.self.now.wanted) (length c.args.self.now.goals) n l) c.tables.ensures c.reach.ensures.answer in
-    let looked = subst (λ t. Looked (schema_of t) G (byte_typing N (schema_of t).labels held) n l (byte_typing N (schema_of t).labels wanted)) c.tables.ensures (c.reach.ensures.change (answer ∙ fits) (g.V.ValueTest.passes c.args.values.now)) in
+    let answer = subst (λ t. is_ok c.reach.result ≡ accepted N (schema_of t).labels (length held) (length c.args.self.now.wanted) (length c.args.self.now.goals) n l) c.tables.ensures c.reach.ensures.answer in
+    let looked = subst (λ t. Looked (schema_of t) G (byte_typing N (schema_of t).labels held) n l (byte_typing N (schema_of t).labels wanted)) c.tables.ensures (when_ok c.reach.result (answer ∙ fits) c.reach.ensures.change (g.V.ValueTest.passes c.args.values.now)) in
     looked_at S G n l (byte_typing N S.labels held) (byte_typing N S.labels wanted) (byte_typing N S.labels c.args.self.now.verdicts) (byte_typing N S.labels c.decide_wanted.new.self.held) (byte_typing N S.labels c.decide_wanted.new.self.verdicts)
     looked (joined_shown N S.labels wanted held c.decide_wanted.new.self.held c.decide_wanted.ensures.change) c.decide_wanted.ensures.value
 
