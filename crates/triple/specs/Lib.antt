@@ -1,3 +1,4 @@
 pub mod Arcs
 pub mod Faults
 pub mod Stores
+pub mod Walks

@@ -1,9 +1,11 @@
 // Triples, and what a triple store means.
 #![tactic(auto)]
 
+mod arcs;
 mod code;
 mod fault;
 mod store;
 
+pub use crate::arcs::Arcs;
 pub use crate::fault::StoreFault;
 pub use store::{MAX_FAN, MAX_NODES, Store, Triple};

@@ -1,0 +1,29 @@
+-- Lists read from a place on. Assumes nothing.
+use Rattle.std.proofs.Common.{◌≡◌, ℕ, ◌+◌, ◌<◌, ◌≤◌, List, [], ◌∷◌, length, drop, Some, None, sym, ap, ◌∙◌, ⊎_elim}
+use Rattle.std.specs.List.{slice_get}
+use Rattle.std.proofs.lemmas.Bool.{cases_lt}
+use Rattle.std.proofs.lemmas.List.{drop_more, drop_all}
+use Rattle.std.proofs.lemmas.Option.{slice_get_within, get_or_from_slice_get, slice_get-get_or}
+use Rattle.std.specs.Iterator.{YieldsFirst}
+use Rattle.std.specs.Iterator.Runs.{YieldsInOrder}
+use Rattle.std.proofs.iter.runs.Sources.{from_front, as_is}
+use Rattle.triple.specs.Arcs.{Arc}
+use Rattle.triple.specs.Walks.{arcs_left}
+
+pub some_left : (arcs : List Arc) (i : ℕ) (x : Arc) → Some x ≡ slice_get arcs i → drop i arcs ≡ x ∷ drop (i + 1) arcs
+some_left arcs i x e = drop_more arcs i x (slice_get_within arcs i x (sym e)) ∙ ap (λ (y : Arc). y ∷ drop (i + 1) arcs) (get_or_from_slice_get arcs i x x (sym e))
+
+some_none : (x : Arc) → None ≡ Some x → ⊥
+some_none x e = cc
+
+pub none_left : (arcs : List Arc) (i : ℕ) → None ≡ slice_get arcs i → drop i arcs ≡ []
+none_left arcs i e =
+    ⊎_elim
+    (λ (h : i < length arcs). absurd (some_none _ (e ∙ slice_get-get_or arcs i (0, 0) h)))
+    (λ (h : length arcs ≤ i). drop_all i arcs h)
+    (cases_lt i (length arcs))
+
+module _ {S : Type 0} (arcs : S → ℕ → List Arc) where
+  -- a walk gives what is left, in order
+  pub arcs_run : YieldsInOrder (YieldsFirst (arcs_left arcs)) (arcs_left arcs)
+  arcs_run p s = as_is p (arcs_left arcs p.from) (from_front (YieldsFirst (arcs_left arcs)) (λ x. x) (arcs_left arcs) (λ s t h. ap length h.0) (λ s x t h. h) p s)
