@@ -1,8 +1,7 @@
 -- The row of a node in the bytes of the pairs.
-use Rattle.std.proofs.Common.{◌≡◌, ℕ, ◌+◌, ◌-◌, ◌*◌, ◌%◌, ◌<◌, ◌≤◌, ◌&&◌, min, not, Bool, true, false, eqb, List, length, get_or, take, drop, Decides, MatchBool, ap, ◌∙◌, sym, refl, subst, add-mul, arith}
-use native.Mathlib.Decide.{dec_lt}
+use Rattle.std.proofs.Common.{◌≡◌, ℕ, ◌+◌, ◌-◌, ◌*◌, ◌<◌, ◌≤◌, ◌&&◌, min, not, Bool, true, false, eqb, ltb, List, length, get_or, take, drop, Decides, MatchBool, ap, ◌∙◌, refl, subst, ⊎_elim, add-mul, arith}
 use Rattle.std.specs.List.{zip, slice_range, HoldsAt, AllWithin}
-use Rattle.std.proofs.lemmas.Bool.{lt-ltb, false≢true}
+use Rattle.std.proofs.lemmas.Bool.{lt-ltb, cases_lt, false≢true}
 use Rattle.std.proofs.lemmas.Bool.Decides.{Decides-and, Decides-eqb}
 use Rattle.std.proofs.lemmas.List.{get_or-take, get_or-drop, length-take-le, length-drop}
 use Rattle.std.proofs.Math.ListN.{get_or-eq_default}
@@ -35,12 +34,6 @@ module _ (due : Due) (node : ℕ) (bound : node < due.nodes) (s e : ℕ) (start 
   abbrev place : ℕ → ℕ
   place l = node * due.labels + l
 
-  wanted_at : (l : ℕ) → l < due.labels → get_or wanted l 0 ≡ get_or due.wanted.now (place l) 0
-  wanted_at l h = get_or-mid due.wanted.now s (e - s) l (omega arith) ∙ ap (λ s. get_or due.wanted.now (s + l) 0) start
-
-  below : (l : ℕ) → l < due.labels → place l < due.nodes * due.labels
-  below l h = omega (arith, mul-add-lt node due.labels l due.nodes bound h)
-
   row_end : node * due.labels + due.labels ≤ due.nodes * due.labels
   row_end = omega (arith, add-mul node 1 due.labels, mul-le (node + 1) due.labels due.nodes due.labels (omega arith) (omega arith))
 
@@ -49,9 +42,9 @@ module _ (due : Due) (node : ℕ) (bound : node < due.nodes) (s e : ℕ) (start 
 
   pub due_at : (l : ℕ) → l < due.labels → (eqb (get_or wanted l 0) 1 && eqb (get_or due.strata.now l 0) due.stratum) ≡ is_due due (place l)
   due_at l h =
-      ap (λ b. eqb b 1 && eqb (get_or due.strata.now l 0) due.stratum) (wanted_at l h)
-      ∙ sym (ap (λ b. b && (eqb (get_or due.wanted.now (place l) 0) 1 && eqb (get_or due.strata.now (place l % due.labels) 0) due.stratum)) (lt-ltb (place l) (due.nodes * due.labels) (below l h))
-      ∙ ap (λ m. eqb (get_or due.wanted.now (place l) 0) 1 && eqb (get_or due.strata.now m 0) due.stratum) (mod-mul-add node due.labels l h))
+      let below : ltb (place l) (due.nodes * due.labels) ≡ true = lt-ltb (place l) (due.nodes * due.labels) (omega (arith, mul-add-lt node due.labels l due.nodes bound h)) in
+      let at : get_or wanted l 0 ≡ get_or due.wanted.now (place l) 0 = get_or-mid due.wanted.now s (e - s) l (omega arith) ∙ ap (λ s. get_or due.wanted.now (s + l) 0) start in
+      rw (below, mod-mul-add node due.labels l h, at) refl
 
   pub cleared_at : (found : List Bool) (x : List ℕ) (l : ℕ) → l < due.labels
       → (eqb (get_or x l 0) 1 && ((eqb (get_or wanted l 0) 1 && eqb (get_or due.strata.now l 0) due.stratum) && not (has_label found l))) ≡ is_cleared due node found x l
@@ -70,9 +63,6 @@ module _ (due : Due) (node : ℕ) (bound : node < due.nodes) (s e : ℕ) (start 
   beside x = zip (zip x wanted) due.strata.now
 
   module _ (r : Bool) (x : List ℕ) (m : MatchBool r ((k : ℕ) × (k < length (beside x)) × HoldsAt IsDue (beside x) k) (AllWithin (λ p. ¬ IsDue p) (beside x) 0 (length (beside x)))) where
-    any : Decides r ((k : ℕ) × (k < length (beside x)) × IsDue (get_or (beside x) k ((0, 0), 0)))
-    any = decides_any IsDue ((0, 0), 0) r (beside x) m
-
     long : length (beside x) ≡ min (length x) due.labels
     long = omega (arith, length-zip (zip x wanted) due.strata.now, length-zip x wanted, wanted_long, due.strata_long)
 
@@ -80,7 +70,7 @@ module _ (due : Due) (node : ℕ) (bound : node < due.nodes) (s e : ℕ) (start 
     at l a b = get_or-zips x wanted due.strata.now l a (omega (arith, wanted_long)) (omega (arith, due.strata_long))
 
     pub decides_row : Decides r ((l : ℕ) × (l < due.labels) × (get_or x l 0 ≡ 1) × (is_due due (place l) ≡ true))
-    decides_row = (λ e. there (any.0 e), λ w. any.1 (back w))
+    decides_row = let any = decides_any IsDue ((0, 0), 0) r (beside x) m in (λ e. there (any.0 e), λ w. any.1 (back w))
       where
         there : (k : ℕ) × (k < length (beside x)) × IsDue (get_or (beside x) k ((0, 0), 0)) → (l : ℕ) × (l < due.labels) × (get_or x l 0 ≡ 1) × (is_due due (place l) ≡ true)
         there (k, h, p) =
@@ -89,9 +79,10 @@ module _ (due : Due) (node : ℕ) (bound : node < due.nodes) (s e : ℕ) (start 
             let is = subst IsDue (at k inside below) p in
             (k, below, is.0, (decides_due_at k below).1 (is.1, is.2))
 
+        inside : (l : ℕ) → get_or x l 0 ≡ 1 → l < length x
+        inside l one = ⊎_elim (λ h. h) (λ past. absurd (omega (arith, get_or-eq_default x 0 {n = l} past))) (cases_lt l (length x))
+
         back : (l : ℕ) × (l < due.labels) × (get_or x l 0 ≡ 1) × (is_due due (place l) ≡ true) → (k : ℕ) × (k < length (beside x)) × IsDue (get_or (beside x) k ((0, 0), 0))
-        back (l, h, one, d) = pick (dec_lt l (length x))
-          where
-            pick : Dec (l < length x) → (k : ℕ) × (k < length (beside x)) × IsDue (get_or (beside x) k ((0, 0), 0))
-            pick (yes inside) = (l, omega (arith, long), subst IsDue (sym (at l inside h)) (let is = (decides_due_at l h).0 d in (one, is.0, is.1)))
-            pick (no past) = absurd (omega (arith, one, get_or-eq_default x 0 {n = l} (omega arith)))
+        back (l, h, one, d) =
+            let is = (decides_due_at l h).0 d in
+            (l, omega (arith, long, inside l one), rw (at l (inside l one) h) (one, is.0, is.1))

@@ -17,7 +17,7 @@ use Rattle.refine.specs.declared.due.Due.{Due}
 use Rattle.refine.specs.Tables.{has_label, Checked}
 use Rattle.refine.specs.Deciding.{stratum, table}
 use Rattle.refine.specs.Due.{is_due, Cleared}
-use Rattle.refine.specs.Narrowing.{Fits, Narrowed, Settled, Stable, Visited, Passed, Marked}
+use Rattle.refine.specs.Narrowing.{Fits, Narrowed, Settled, Visited, Passed, Marked}
 use Rattle.refine.proofs.Thinned.{Thinned, thinned}
 use Rattle.refine.proofs.Places.{same_label, same_node, decides_shown, shown_same, decides_due}
 
@@ -32,6 +32,11 @@ mark_before marks n o e = pick (ℕ_discrete n o)
     pick : Dec (n ≡ o) → (n ≡ o) ⊎ (get_or marks n false ≡ false)
     pick (yes h) = inl h
     pick (no h) = inr (sym (get_or-set_other marks o n false false h) ∙ e)
+
+-- a sum of bytes that stayed or fell; any says which
+no_more : {A : Type 0} (any : Bool) (x y : List ℕ) → (any ≡ false → (y ≡ x) × A) → (any ≡ true → sum y < sum x) → sum y ≤ sum x
+no_more true x y same fewer = omega (arith, fewer refl)
+no_more false x y same fewer = omega (arith, ap sum (same refl).0)
 
 module _ (S : Schema) (G : Graph) (due : Due) where
   pub narrowed_refl : (x : List ℕ) → Narrowed S G due x x
@@ -142,9 +147,6 @@ module _ (S : Schema) (G : Graph) (due : Due) where
     pub passed_unmarked : get_or marks' m false ≡ false → Passed S G due any marks marks' x y (m + 1)
     passed_unmarked e = record { change = p.change; after = p.after; same = λ f. ((p.same f).0, below_more _ m (p.same f).1 e); fewer = p.fewer }
 
-    no_more : sum y ≤ sum x
-    no_more = ⊎_elim (λ e. omega (arith, p.fewer e)) (λ e. omega (arith, ap sum (p.same e).0)) (cases_Bool any)
-
     pub passed_visited : (any' : Bool) (marks'' : List Bool) (z : List ℕ) → m < length marks' → Visited S G due any' marks' marks'' y z m
         → Passed S G due (any || any') marks marks'' x z (m + 1)
     passed_visited any' marks'' z long v =
@@ -152,17 +154,10 @@ module _ (S : Schema) (G : Graph) (due : Due) where
           change = narrowed_trans x y z p.change v.change;
           after = λ s. v.after (p.after s);
           same = λ e. same_parts (or_parts any any' e);
-          fewer = λ e. ⊎_elim (λ t. omega (arith, p.fewer t, no_more_after)) (λ t. omega (arith, no_more, v.fewer t)) (or_cases any any' e);
+          fewer = λ e. ⊎_elim (λ t. omega (arith, p.fewer t, no_more any' y z v.same v.fewer)) (λ t. omega (arith, no_more any x y p.same p.fewer, v.fewer t)) (or_cases any any' e);
         }
       where
-        no_more_after : sum z ≤ sum y
-        no_more_after = ⊎_elim (λ e. omega (arith, v.fewer e)) (λ e. omega (arith, ap sum (v.same e).0)) (cases_Bool any')
-
         same_parts : (any ≡ false) × (any' ≡ false) → (z ≡ x) × ((n : ℕ) → n < m + 1 → get_or marks'' n false ≡ false)
         same_parts (e, f) =
             let marked : marks'' ≡ set marks' m false = (v.same f).1 in
             ((v.same f).0 ∙ (p.same e).0, rw marked (below_more _ m (λ n h. get_or-set_other marks' m n false false (λ e. omega arith) ∙ (p.same e).1 n h) (get_or-set_same marks' m false false long)))
-
-  -- where no mark is left, all is stable
-  pub settled_stable : (marks : List Bool) (x : List ℕ) → ((n : ℕ) → n < G.nodes → get_or marks n false ≡ false) → Settled S G due marks x → Stable S G due x
-  settled_stable marks x clean settled n l hn hl d a = settled n l hn hl (clean n hn) d a

@@ -1,13 +1,13 @@
 -- A table in which the row of one node lost pairs.
-use Rattle.std.proofs.Common.{◌≡◌, ℕ, ◌+◌, ◌-◌, ◌*◌, ◌<◌, ◌≤◌, ◌&&◌, not, Bool, true, false, cond, eqb, suc, zero, ◌⊎◌, List, [], ◌∷◌, length, ◌++◌, get_or, take, drop, sum, ap, ◌∙◌, inl, inr, ⊎_elim, arith}
-use borrow.Rule.Slice.PartMut.{put_mid, post_of}
+use Rattle.std.proofs.Common.{◌≡◌, ℕ, ◌+◌, ◌-◌, ◌*◌, ◌<◌, ◌≤◌, ◌&&◌, not, Bool, true, false, cond, eqb, suc, zero, ◌⊎◌, List, [], ◌∷◌, length, ◌++◌, get_or, take, drop, sum, ap, ◌∙◌, refl, inl, inr, ⊎_elim, arith}
+use borrow.Rule.Slice.PartMut.{put_mid}
 use Rattle.std.proofs.lemmas.Bool.{and_parts, and_from, both_ways, cases_Bool, cases_lt, cond-true, cond-false, eqb-true, eq-eqb, false_from_ne_true, true_from_ne_false, not_from_true, not_from_false}
-use Rattle.std.proofs.lemmas.List.{get_or-take, get_or-drop, get_or-append_right, length-take-le, take-append-drop}
+use Rattle.std.proofs.lemmas.List.{take-append-drop}
 use Rattle.std.proofs.lemmas.List.Sums.{sum_by-cons}
-use Rattle.std.proofs.Math.ListN.{get_or-append}
 use Rattle.refine.specs.declared.due.Due.{Due}
 use Rattle.refine.specs.Tables.{has_label}
 use Rattle.refine.specs.Due.{is_due, is_cleared, Cleared}
+use Rattle.refine.proofs.Writing.{put_inside, put_outside}
 use Rattle.refine.proofs.Rows.{get_or-mid}
 
 -- sums of bytes of which none grew, and one shrank
@@ -22,22 +22,6 @@ sum_less (a ∷ x) [] h zero less = omega (arith, sum_by-cons (λ n. n) a x)
 sum_less (a ∷ x) [] h (suc k) less = omega (arith, sum_by-cons (λ n. n) a x, sum_less x [] (λ k. h (suc k)) k less)
 sum_less (a ∷ x) (b ∷ y) h zero less = omega (arith, sum_by-cons (λ n. n) a x, sum_by-cons (λ n. n) b y, sum_le x y (λ k. h (suc k)))
 sum_less (a ∷ x) (b ∷ y) h (suc k) less = omega (arith, sum_by-cons (λ n. n) a x, sum_by-cons (λ n. n) b y, h 0, sum_less x y (λ k. h (suc k)) k less)
-
--- bytes after a write to n of them, from a on
-module _ (x r : List ℕ) (a n : ℕ) (long : a + n ≤ length x) (same : length r ≡ n) where
-  put_inside : (l : ℕ) → l < n → get_or (put_mid a n x r) (a + l) 0 ≡ get_or r l 0
-  put_inside l h =
-      get_or-append_right (take a x) (r ++ post_of a n x) a (a + l) 0 (length-take-le a x (omega arith)) (omega arith)
-      ∙ (let e : (a + l) - a ≡ l = omega arith in ap (λ l. get_or (r ++ post_of a n x) l 0) e) ∙ get_or-append r (post_of a n x) 0 l (omega arith)
-
-  put_before : (k : ℕ) → k < a → get_or (put_mid a n x r) k 0 ≡ get_or x k 0
-  put_before k h = get_or-append (take a x) (r ++ post_of a n x) 0 k (omega (arith, length-take-le a x (omega arith))) ∙ get_or-take a x k 0 h
-
-  put_past : (k : ℕ) → a + n ≤ k → get_or (put_mid a n x r) k 0 ≡ get_or x k 0
-  put_past k h =
-      get_or-append_right (take a x) (r ++ post_of a n x) a k 0 (length-take-le a x (omega arith)) (omega arith)
-      ∙ get_or-append_right r (post_of a n x) n (k - a) 0 same (omega arith) ∙ get_or-drop n (drop a x) ((k - a) - n) 0 ∙ get_or-drop a x (n + ((k - a) - n)) 0
-      ∙ (let e : a + (n + ((k - a) - n)) ≡ k = omega arith in ap (λ k. get_or x k 0) e)
 
 -- the byte at k is that of a due pair of the node o, in x and not in y, whose label is not found; L is the number of labels
 pub record Taken (due : Due) (L o : ℕ) (found : List Bool) (x y : List ℕ) (k : ℕ) : Type 0 where
@@ -64,7 +48,7 @@ module _ (due : Due) (o : ℕ) (found : List Bool) (x row : List ℕ) (any : Boo
   is = is_cleared due o found (take n (drop a x))
 
   y_at : (l : ℕ) → l < n → get_or y (a + l) 0 ≡ cond (is l) 0 (get_or (take n (drop a x)) l 0)
-  y_at l h = put_inside x row a n long same l h ∙ c.bytes l (omega arith)
+  y_at l h = put_inside x row a n long same 0 (a + l) l refl h ∙ c.bytes l (omega arith)
 
   cleared_parts : (l : ℕ) → is l ≡ true → (get_or (take n (drop a x)) l 0 ≡ 1) × (is_due due (o * due.labels + l) ≡ true) × (has_label found l ≡ false)
   cleared_parts l e =
@@ -86,8 +70,8 @@ module _ (due : Due) (o : ℕ) (found : List Bool) (x row : List ℕ) (any : Boo
       })
 
   change : (k : ℕ) → (k < a) ⊎ (a ≤ k) → (k < a + n) ⊎ (a + n ≤ k) → (get_or y k 0 ≡ get_or x k 0) ⊎ Taken due due.labels o found x y k
-  change k (inl h) _ = inl (put_before x row a n long same k h)
-  change k (inr h) (inr g) = inl (put_past x row a n long same k g)
+  change k (inl h) _ = inl (put_outside x row a n long same 0 k (inl h))
+  change k (inr h) (inr g) = inl (put_outside x row a n long same 0 k (inr g))
   change k (inr h) (inl g) = let e : a + (k - a) ≡ k = omega arith in rw (← e) (change_at (k - a) (omega arith) (cases_Bool (is (k - a))))
 
   left : (l : ℕ) → l < due.labels → is_due due (o * due.labels + l) ≡ true → get_or y (o * due.labels + l) 0 ≡ 1 → has_label found l ≡ true

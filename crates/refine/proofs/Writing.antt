@@ -1,7 +1,7 @@
 -- A value written where a test holds: one more place, and what follows where the test is a function.
-use Rattle.std.proofs.Common.{◌≡◌, ℕ, ◌+◌, ◌-◌, ◌<◌, ◌≤◌, ◌&&◌, Bool, true, false, cond, ltb, ◌⊎◌, List, ◌++◌, length, get_or, set, take, drop, Decides, ⊎_elim, inl, inr, ap, ◌∙◌, sym, refl, subst, arith, below_more, get_or-set_same, get_or-set_other}
-use native.Mathlib.Decide.{dec_lt}
-use Rattle.std.proofs.lemmas.Bool.{true≢false, lt-ltb, le-ltb}
+use Rattle.std.proofs.Common.{◌≡◌, ℕ, ◌+◌, ◌-◌, ◌<◌, ◌≤◌, ◌&&◌, Bool, true, false, cond, ltb, ◌⊎◌, List, ◌++◌, length, get_or, set, take, drop, Decides, ⊎_elim, inl, inr, ap, ◌∙◌, sym, refl, arith, below_more, get_or-set_same, get_or-set_other}
+use borrow.Rule.Slice.PartMut.{put_mid, post_of}
+use Rattle.std.proofs.lemmas.Bool.{cases_lt, true≢false, lt-ltb, le-ltb}
 use Rattle.std.proofs.lemmas.List.{get_or-take, get_or-drop, get_or_default, get_or-append_right, length-take-le}
 use Rattle.std.proofs.Math.ListN.{get_or-append}
 use Rattle.refine.specs.Narrowing.{Marked}
@@ -35,45 +35,49 @@ module _ {T : Type 0} (test : ℕ → T → Bool → Type 0) (value : T) (x : Li
     pub written_some : any ≡ true → (k : ℕ) × (k < length x) × (is k ≡ true)
     written_some e = let m = w.some e in (m.0, m.1, sym (f m.0 true m.1 m.2))
 
+-- x after a write of r to its n items from a on
+module _ {T : Type 0} (x r : List T) (a n : ℕ) (long : a + n ≤ length x) (same : length r ≡ n) (d : T) where
+  pub put_inside : (k l : ℕ) → k ≡ a + l → l < n → get_or (put_mid a n x r) k d ≡ get_or r l d
+  put_inside k l e h =
+      let f : k - a ≡ l = omega arith in
+      get_or-append_right (take a x) (r ++ post_of a n x) a k d (length-take-le a x (omega arith)) (omega arith) ∙ rw f (get_or-append r (post_of a n x) d l (omega arith))
+
+  pub put_outside : (k : ℕ) → (k < a) ⊎ (a + n ≤ k) → get_or (put_mid a n x r) k d ≡ get_or x k d
+  put_outside k (inl h) = get_or-append (take a x) (r ++ post_of a n x) d k (omega (arith, length-take-le a x (omega arith))) ∙ get_or-take a x k d h
+  put_outside k (inr h) =
+      let e : a + (n + ((k - a) - n)) ≡ k = omega arith in
+      get_or-append_right (take a x) (r ++ post_of a n x) a k d (length-take-le a x (omega arith)) (omega arith) ∙ get_or-append_right r (post_of a n x) n (k - a) d same (omega arith)
+      ∙ get_or-drop n (drop a x) ((k - a) - n) d ∙ get_or-drop a x (n + ((k - a) - n)) d ∙ ap (λ k. get_or x k d) e
+
 -- the bytes of a table, where its first n are written
 pub prefix_written : (test : ℕ → ℕ → Bool → Type 0) (value : ℕ) (x y : List ℕ) (n : ℕ) (any : Bool) (is : ℕ → Bool) → n ≤ length x → length y ≡ n
     → WrittenWhere test value (take n x) any y → ((k : ℕ) (b : Bool) → k < n → test k (get_or (take n x) k value) b → b ≡ is k)
-    → (k : ℕ) → get_or (y ++ drop n x) k 0 ≡ cond (ltb k n && is k) value (get_or x k 0)
-prefix_written test value x y n any is long e w f k = at (dec_lt k n)
-  where
-    at : Dec (k < n) → get_or (y ++ drop n x) k 0 ≡ cond (ltb k n && is k) value (get_or x k 0)
-    at (yes h) =
-        get_or-append y (drop n x) 0 k (omega arith) ∙ get_or_default y k 0 value (omega arith)
-        ∙ written_at test value (take n x) is any y w (λ k b h. f k b (omega (arith, length-take-le n x long))) k (omega (arith, length-take-le n x long))
-        ∙ ap (λ v. cond (is k) value v) (get_or-take n x k value h ∙ get_or_default x k value 0 (omega arith))
-        ∙ sym (ap (λ b. cond (b && is k) value (get_or x k 0)) (lt-ltb k n h))
-    at (no g) =
-        let past : n ≤ k = omega arith in
-        let sum : n + (k - n) ≡ k = omega arith in
-        get_or-append_right y (drop n x) n k 0 e past ∙ get_or-drop n x (k - n) 0 ∙ ap (λ j. get_or x j 0) sum
-        ∙ sym (ap (λ b. cond (b && is k) value (get_or x k 0)) (le-ltb k n past))
-
--- and the marks, where the test of n is whether L holds
-pub marked : (test : ℕ → Bool → Bool → Type 0) (L : ℕ → Type 0) (x y : List Bool) (n : ℕ) (any : Bool) → n ≤ length x → length y ≡ n
-    → WrittenWhere test true (take n x) any y → ((k : ℕ) (b : Bool) → k < n → test k (get_or (take n x) k true) b → Decides b (L k)) → Marked L n x (y ++ drop n x)
-marked test L x y n any long e w f = record { before = before; past = past }
+    → (k : ℕ) → get_or (put_mid 0 n x y) k 0 ≡ cond (ltb k n && is k) value (get_or x k 0)
+prefix_written test value x y n any is long e w f k = at (cases_lt k n)
   where
     len : length (take n x) ≡ n
     len = length-take-le n x long
 
+    at : (k < n) ⊎ (n ≤ k) → get_or (put_mid 0 n x y) k 0 ≡ cond (ltb k n && is k) value (get_or x k 0)
+    at (inl h) =
+        rw (lt-ltb k n h) (put_inside x y 0 n (omega arith) e 0 k k (omega arith) h ∙ get_or_default y k 0 value (omega arith)
+        ∙ written_at test value (take n x) is any y w (λ k b h. f k b (omega (arith, len))) k (omega (arith, len))
+        ∙ ap (λ v. cond (is k) value v) (get_or-take n x k value h ∙ get_or_default x k value 0 (omega arith)))
+    at (inr past) = rw (le-ltb k n past) (put_outside x y 0 n (omega arith) e 0 k (inr (omega arith)))
+
+-- and the marks, where the test of n is whether L holds
+pub marked : (test : ℕ → Bool → Bool → Type 0) (L : ℕ → Type 0) (x y : List Bool) (n : ℕ) (any : Bool) → n ≤ length x → length y ≡ n
+    → WrittenWhere test true (take n x) any y → ((k : ℕ) (b : Bool) → k < n → test k (get_or (take n x) k true) b → Decides b (L k)) → Marked L n x (put_mid 0 n x y)
+marked test L x y n any long e w f = record { before = before; past = λ k h. put_outside x y 0 n (omega arith) e false k (inr (omega arith)) }
+  where
     held : (b : Bool) (P : Type 0) (v : Bool) → Decides b P → Decides (cond b true v) ((v ≡ true) ⊎ P)
     held true P v d = (λ _. inr (d.0 refl), λ _. refl)
     held false P v d = (λ e. inl e, λ m. ⊎_elim (λ e. e) (λ p. absurd (true≢false (sym (d.1 p)))) m)
 
-    before : (k : ℕ) → k < n → Decides (get_or (y ++ drop n x) k false) ((get_or x k false ≡ true) ⊎ L k)
+    before : (k : ℕ) → k < n → Decides (get_or (put_mid 0 n x y) k false) ((get_or x k false ≡ true) ⊎ L k)
     before k h =
-        let m = w.before k (omega (arith, len)) in
-        let same : get_or (take n x) k true ≡ get_or x k false = get_or-take n x k true h ∙ get_or_default x k true false (omega arith) in
-        let at : get_or (y ++ drop n x) k false ≡ cond m.0 true (get_or x k false) =
-        get_or-append y (drop n x) false k (omega arith) ∙ get_or_default y k false true (omega arith) ∙ m.2 ∙ ap (λ v. cond m.0 true v) same in
-        subst (λ v. Decides v ((get_or x k false ≡ true) ⊎ L k)) (sym at) (held m.0 (L k) (get_or x k false) (f k m.0 h m.1))
-
-    past : (k : ℕ) → n ≤ k → get_or (y ++ drop n x) k false ≡ get_or x k false
-    past k h =
-        let sum : n + (k - n) ≡ k = omega arith in
-        get_or-append_right y (drop n x) n k false e h ∙ get_or-drop n x (k - n) false ∙ ap (λ j. get_or x j false) sum
+        let m = w.before k (omega (arith, length-take-le n x long)) in
+        let at : get_or (put_mid 0 n x y) k false ≡ cond m.0 true (get_or x k false) =
+        put_inside x y 0 n (omega arith) e false k k (omega arith) h ∙ get_or_default y k false true (omega arith) ∙ m.2
+        ∙ ap (λ v. cond m.0 true v) (get_or-take n x k true h ∙ get_or_default x k true false (omega arith)) in
+        rw at (held m.0 (L k) (get_or x k false) (f k m.0 h m.1))

@@ -1,14 +1,8 @@
 use Rattle.std.proofs.Common.{◌≡◌, ◌<◌, true, false, get_or, replicate, refl, ◌∙◌, arith}
 use Rattle.std.proofs.lemmas.List.{get_or-replicate}
 use Rattle.std.proofs.lemmas.Bool.{both_ways}
-use Rattle.refine.proofs.Steps.{narrowed_refl, narrowed_trans, settled_stable}
+use Rattle.refine.proofs.Steps.{narrowed_refl, narrowed_trans}
 use Rattle.refine.proofs.narrow.narrow.Goals as goal
-
-pub narrow_marked-requires : goal.narrow_marked-requires
-narrow_marked-requires g c =
-    let e : g.C.NodeCheck.schema c.loop-marks.check ≡ g.C.NodeCheck.schema c.args.check.now = c.loop-marks.invariant.0 in
-    let f : g.C.NodeCheck.graph c.loop-marks.check ≡ g.C.NodeCheck.graph c.args.check.now = c.loop-marks.invariant.1 in
-    rw (e, f) (record { nodes = c.requires.nodes; labels = c.requires.labels; long = omega arith })
 
 pub loop-marks-init : goal.loop-marks-init
 loop-marks-init g c = (
@@ -41,5 +35,5 @@ returns g c =
     record {
       kept = (k.kept.0 ∙ e, k.kept.1 ∙ f);
       change = narrowed_trans S G c.args.due.now c.args.typing.now l.typing c.narrow_marked.new.typing l.invariant.2 passed.change;
-      after = settled_stable S G c.args.due.now c.narrow_marked.new.marks c.narrow_marked.new.typing (passed.same c.loop-marks-test.false).1 (passed.after l.invariant.3);
+      after = λ n m hn hm d a. passed.after l.invariant.3 n m hn hm ((passed.same c.loop-marks-test.false).1 n hn) d a;
     }
