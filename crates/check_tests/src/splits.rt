@@ -3,36 +3,29 @@ use draft::TripleRow;
 
 // The arcs that an assignment gives to a part; the code has a digit in base `parts` for each arc.
 fn part(chosen: [bool; 3], parts: u8, code: u16, which: u8) -> [bool; 3] {
-    let mut given = [false; 3];
+    let base = u16::from(parts.max(1));
+    let mut given = chosen;
     let mut rest = code;
-    for i in 0..3 {
-        let base = u16::from(parts.max(1));
-        given[i] = chosen[i] && rest % base == u16::from(which);
+    for is_given in given.iter_mut() {
+        *is_given = *is_given && rest % base == u16::from(which);
         rest /= base;
     }
     given
 }
 
 fn none(chosen: [bool; 3]) -> bool {
-    !chosen[0] && !chosen[1] && !chosen[2]
+    !chosen.contains(&true)
 }
 
 // Whether one arc alone is chosen, and it is admitted.
 fn one(chosen: [bool; 3], admitted: [bool; 3]) -> bool {
-    let [a, b, c] = chosen;
-    (a && !b && !c && admitted[0])
-        || (!a && b && !c && admitted[1])
-        || (!a && !b && c && admitted[2])
+    let count = chosen.iter().filter(|is_chosen| **is_chosen).count();
+    count == 1 && chosen.iter().zip(&admitted).any(|(is_chosen, is_admitted)| *is_chosen && *is_admitted)
 }
 
 // How many assignments of three arcs to parts there are; at most four parts.
 fn assignments(parts: u8) -> u16 {
-    match parts {
-        0 | 1 => 1,
-        2 => 8,
-        3 => 27,
-        _ => 64,
-    }
+    u16::from(parts.clamp(1, 4)).saturating_pow(3)
 }
 
 // Whether the chosen arcs meet a row; admitted[l] are the arcs whose object has the label l. A chain of rows is followed `depth` rows down.
@@ -49,37 +42,23 @@ pub(crate) fn meets(
     match rows[usize::from(row)] {
         TripleRow::Empty => none(chosen),
         TripleRow::Arc(_, label) => one(chosen, admitted[usize::from(label % 2)]),
-        TripleRow::Each(a, b) => {
-            for code in 0..8 {
-                if meets(depth - 1, rows, a, part(chosen, 2, code, 0), admitted)
-                    && meets(depth - 1, rows, b, part(chosen, 2, code, 1), admitted)
-                {
-                    return true;
-                }
-            }
-            false
-        }
+        TripleRow::Each(a, b) => (0..8).any(|code| {
+            meets(depth - 1, rows, a, part(chosen, 2, code, 0), admitted)
+                && meets(depth - 1, rows, b, part(chosen, 2, code, 1), admitted)
+        }),
         TripleRow::Some(a, b) => {
             meets(depth - 1, rows, a, chosen, admitted)
                 || meets(depth - 1, rows, b, chosen, admitted)
         }
         TripleRow::Times(a, least, most) => {
-            for parts in least..most.unwrap_or(4).min(4) + 1 {
-                if parts == 0 && none(chosen) {
-                    return true;
-                }
-                for code in 0..assignments(parts) {
-                    let mut all = parts > 0;
-                    for which in 0..parts {
-                        let own = part(chosen, parts, code, which);
-                        all = all && meets(depth - 1, rows, a, own, admitted);
-                    }
-                    if all {
-                        return true;
-                    }
-                }
-            }
-            false
+            (least..most.unwrap_or(4).min(4) + 1).any(|parts| match parts {
+                0 => none(chosen),
+                _ => (0..assignments(parts)).any(|code| {
+                    (0..parts).all(|which| {
+                        meets(depth - 1, rows, a, part(chosen, parts, code, which), admitted)
+                    })
+                }),
+            })
         }
     }
 }

@@ -5,9 +5,8 @@ ghost use Rattle.node_check.specs.Answers.{graph as graph_of};
 ghost use Rattle.schema.specs.Accepted.{meaning};
 ghost use Rattle.validator.specs.Marks.{Joined, Widens, LookedAt, AllDecided};
 
-use checker::Checker;
 use leaning::reach;
-use node_check::Scratch;
+use node_check::{Checker, Scratch};
 use refine::{NodeCheck, decide};
 use schema::Schema;
 use stack::Goal;
