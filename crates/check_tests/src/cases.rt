@@ -6,24 +6,38 @@ use tables::LawfulTables;
 use triple::{Store, StoreFault, Triple};
 use values::{Term, TermKind, TermTable, Test};
 
-const fn whole(value: i32) -> Term {
-    Term {
-        kind: TermKind::Whole(value),
-    }
-}
-
 // Node i is the whole number i.
 const NUMBERS: [Term; 10] = [
-    whole(0),
-    whole(1),
-    whole(2),
-    whole(3),
-    whole(4),
-    whole(5),
-    whole(6),
-    whole(7),
-    whole(8),
-    whole(9),
+    Term {
+        kind: TermKind::Whole(0),
+    },
+    Term {
+        kind: TermKind::Whole(1),
+    },
+    Term {
+        kind: TermKind::Whole(2),
+    },
+    Term {
+        kind: TermKind::Whole(3),
+    },
+    Term {
+        kind: TermKind::Whole(4),
+    },
+    Term {
+        kind: TermKind::Whole(5),
+    },
+    Term {
+        kind: TermKind::Whole(6),
+    },
+    Term {
+        kind: TermKind::Whole(7),
+    },
+    Term {
+        kind: TermKind::Whole(8),
+    },
+    Term {
+        kind: TermKind::Whole(9),
+    },
 ];
 
 const TESTS: [Test; 2] = [Test::Whole(0, 9), Test::Whole(0, 4)];

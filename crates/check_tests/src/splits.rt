@@ -20,7 +20,11 @@ fn none(chosen: [bool; 3]) -> bool {
 // Whether one arc alone is chosen, and it is admitted.
 fn one(chosen: [bool; 3], admitted: [bool; 3]) -> bool {
     let count = chosen.iter().filter(|is_chosen| **is_chosen).count();
-    count == 1 && chosen.iter().zip(&admitted).any(|(is_chosen, is_admitted)| *is_chosen && *is_admitted)
+    count == 1
+        && chosen
+            .iter()
+            .zip(&admitted)
+            .any(|(is_chosen, is_admitted)| *is_chosen && *is_admitted)
 }
 
 // How many assignments of three arcs to parts there are; at most four parts.
@@ -29,6 +33,7 @@ fn assignments(parts: u8) -> u16 {
 }
 
 // Whether the chosen arcs meet a row; admitted[l] are the arcs whose object has the label l. A chain of rows is followed `depth` rows down.
+// By loops: through closures the recursion would be a cycle of six functions, each with a measure of its own.
 pub(crate) fn meets(
     depth: u8,
     rows: &[TripleRow],
@@ -42,23 +47,37 @@ pub(crate) fn meets(
     match rows[usize::from(row)] {
         TripleRow::Empty => none(chosen),
         TripleRow::Arc(_, label) => one(chosen, admitted[usize::from(label % 2)]),
-        TripleRow::Each(a, b) => (0..8).any(|code| {
-            meets(depth - 1, rows, a, part(chosen, 2, code, 0), admitted)
-                && meets(depth - 1, rows, b, part(chosen, 2, code, 1), admitted)
-        }),
+        TripleRow::Each(a, b) => {
+            for code in 0..8 {
+                if meets(depth - 1, rows, a, part(chosen, 2, code, 0), admitted)
+                    && meets(depth - 1, rows, b, part(chosen, 2, code, 1), admitted)
+                {
+                    return true;
+                }
+            }
+            false
+        }
         TripleRow::Some(a, b) => {
             meets(depth - 1, rows, a, chosen, admitted)
                 || meets(depth - 1, rows, b, chosen, admitted)
         }
         TripleRow::Times(a, least, most) => {
-            (least..most.unwrap_or(4).min(4) + 1).any(|parts| match parts {
-                0 => none(chosen),
-                _ => (0..assignments(parts)).any(|code| {
-                    (0..parts).all(|which| {
-                        meets(depth - 1, rows, a, part(chosen, parts, code, which), admitted)
-                    })
-                }),
-            })
+            for parts in least..most.unwrap_or(4).min(4) + 1 {
+                if parts == 0 && none(chosen) {
+                    return true;
+                }
+                for code in 0..assignments(parts) {
+                    let mut all = parts > 0;
+                    for which in 0..parts {
+                        let own = part(chosen, parts, code, which);
+                        all = all && meets(depth - 1, rows, a, own, admitted);
+                    }
+                    if all {
+                        return true;
+                    }
+                }
+            }
+            false
         }
     }
 }
