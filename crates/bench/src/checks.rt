@@ -8,7 +8,7 @@ use crate::timing::{Work, time_both};
 use anyhow::anyhow;
 use chain::ChainStore;
 use draft::SchemaFault;
-use node_check::{Scratch, satisfies};
+use node_check::{Checker, Scratch};
 use schema::Schema;
 use values::{Term, TermKind, TermTable};
 
@@ -33,16 +33,13 @@ struct ByMasks<'a> {
 impl Work for ByMasks<'_> {
     fn call(&mut self, turn: u16) -> bool {
         let values = TermTable::new(&TERMS, &TESTS);
-        let tables = self.schema.tables();
-        satisfies(
-            tables,
-            self.store,
-            &values,
-            &TYPING,
-            turn % 4,
-            0,
-            &mut self.scratch,
-        )
+        let mut check = Checker {
+            tables: self.schema.tables(),
+            store: self.store,
+            values: &values,
+            scratch: &mut self.scratch,
+        };
+        check.satisfies(&TYPING, turn % 4, 0)
     }
 }
 

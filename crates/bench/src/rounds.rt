@@ -1,5 +1,5 @@
 // The plain sweep: every pair of a stratum is checked again in every round, until a round takes nothing out.
-use node_check::{Scratch, satisfies};
+use node_check::{Checker, Scratch};
 use tables::LawfulTables;
 use triple::Store;
 use values::ValueTest;
@@ -24,14 +24,18 @@ fn narrow<S: Store, V: ValueTest>(
     scratch: &mut Scratch,
 ) -> bool {
     let labels = tables.definitions().len();
+    let mut check = Checker {
+        tables,
+        store,
+        values,
+        scratch,
+    };
     let mut taken = false;
     for node in 0..store.node_count() {
         let place = usize::from(node)
             .saturating_mul(labels)
             .saturating_add(usize::from(label));
-        if table.get(place).copied() == Some(1)
-            && !satisfies(tables, store, values, table, node, label, scratch)
-        {
+        if table.get(place).copied() == Some(1) && !check.satisfies(table, node, label) {
             if let Some(byte) = table.get_mut(place) {
                 *byte = 0;
             }

@@ -1,7 +1,7 @@
 // A node 0 whose arcs all have one property, over nodes that are whole numbers.
 use chain::ChainStore;
 use draft::{Draft, PropertySet, SchemaFault, ShapeRow, TripleRow};
-use node_check::{Scratch, satisfies};
+use node_check::{Checker, Scratch};
 use tables::LawfulTables;
 use triple::{Store, StoreFault, Triple};
 use values::{Term, TermKind, TermTable, Test};
@@ -72,11 +72,17 @@ pub(crate) fn store(objects: &[u16]) -> Result<ChainStore, StoreFault> {
 
 // The typing of the numbers by the labels 1 and 2.
 pub(crate) fn typing(tables: &LawfulTables, store: &ChainStore, scratch: &mut Scratch) -> [u8; 30] {
+    let values = values();
+    let mut check = Checker {
+        tables,
+        store,
+        values: &values,
+        scratch,
+    };
     let mut table = [0; 30];
-    for node in 0..10u16 {
-        for label in 1..3u8 {
-            let has = satisfies(tables, store, &values(), &[], node, label, scratch);
-            table[usize::from(node) * 3 + usize::from(label)] = u8::from(has);
+    for (node, row) in (0..10).zip(table.chunks_exact_mut(3)) {
+        for (label, byte) in (0..3).zip(row).skip(1) {
+            *byte = u8::from(check.satisfies(&[], node, label));
         }
     }
     table

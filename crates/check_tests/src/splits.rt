@@ -3,39 +3,37 @@ use draft::TripleRow;
 
 // The arcs that an assignment gives to a part; the code has a digit in base `parts` for each arc.
 fn part(chosen: [bool; 3], parts: u8, code: u16, which: u8) -> [bool; 3] {
-    let mut given = [false; 3];
+    let base = u16::from(parts.max(1));
+    let mut given = chosen;
     let mut rest = code;
-    for i in 0..3 {
-        let base = u16::from(parts.max(1));
-        given[i] = chosen[i] && rest % base == u16::from(which);
+    for is_given in given.iter_mut() {
+        *is_given = *is_given && rest % base == u16::from(which);
         rest /= base;
     }
     given
 }
 
 fn none(chosen: [bool; 3]) -> bool {
-    !chosen[0] && !chosen[1] && !chosen[2]
+    !chosen.contains(&true)
 }
 
 // Whether one arc alone is chosen, and it is admitted.
 fn one(chosen: [bool; 3], admitted: [bool; 3]) -> bool {
-    let [a, b, c] = chosen;
-    (a && !b && !c && admitted[0])
-        || (!a && b && !c && admitted[1])
-        || (!a && !b && c && admitted[2])
+    let count = chosen.iter().filter(|is_chosen| **is_chosen).count();
+    count == 1
+        && chosen
+            .iter()
+            .zip(&admitted)
+            .any(|(is_chosen, is_admitted)| *is_chosen && *is_admitted)
 }
 
 // How many assignments of three arcs to parts there are; at most four parts.
 fn assignments(parts: u8) -> u16 {
-    match parts {
-        0 | 1 => 1,
-        2 => 8,
-        3 => 27,
-        _ => 64,
-    }
+    u16::from(parts.clamp(1, 4)).saturating_pow(3)
 }
 
 // Whether the chosen arcs meet a row; admitted[l] are the arcs whose object has the label l. A chain of rows is followed `depth` rows down.
+// By loops: through closures the recursion would be a cycle of six functions, each with a measure of its own.
 pub(crate) fn meets(
     depth: u8,
     rows: &[TripleRow],

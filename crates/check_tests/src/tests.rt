@@ -1,8 +1,10 @@
 // The worked cases, and the comparison with all splits.
+ghost use Rattle.std.specs.Prelude.{◌<◌, max};
+
 use crate::cases::{schema, store, typing, values};
 use crate::splits::meets;
 use draft::TripleRow;
-use node_check::{Scratch, satisfies};
+use node_check::{Checker, Scratch};
 use std::test::Fail;
 
 // Whether node 0 with these objects satisfies HOOD of a row.
@@ -14,7 +16,14 @@ fn answer(triples: &[TripleRow], hood: u8, objects: &[u16], scratch: &mut Scratc
         return None;
     };
     let table = typing(&tables, &store, scratch);
-    Some(satisfies(&tables, &store, &values(), &table, 0, 0, scratch))
+    let values = values();
+    let mut check = Checker {
+        tables: &tables,
+        store: &store,
+        values: &values,
+        scratch,
+    };
+    Some(check.satisfies(&table, 0, 0))
 }
 
 #[test]
@@ -51,10 +60,17 @@ fn missing_nodes_and_labels(rt: HostRuntime) -> Result<(), Fail> {
     let Ok(store) = store(&[]) else {
         return Err(Fail::new("no store"));
     };
-    assert!(rt; satisfies(&tables, &store, &values(), &[], 9, 0, &mut scratch));
-    assert!(rt; !satisfies(&tables, &store, &values(), &[], 10, 0, &mut scratch));
-    assert!(rt; !satisfies(&tables, &store, &values(), &[], 9, 3, &mut scratch));
-    assert!(rt; !satisfies(&tables, &store, &values(), &[], 9, 255, &mut scratch));
+    let values = values();
+    let mut check = Checker {
+        tables: &tables,
+        store: &store,
+        values: &values,
+        scratch: &mut scratch,
+    };
+    assert!(rt; check.satisfies(&[], 9, 0));
+    assert!(rt; !check.satisfies(&[], 10, 0));
+    assert!(rt; !check.satisfies(&[], 9, 3));
+    assert!(rt; !check.satisfies(&[], 9, 255));
     Ok(())
 }
 
@@ -65,7 +81,9 @@ struct Source {
 }
 
 impl Source {
-    fn below(&mut self, bound: u8) -> u8 {
+    fn below(&mut self, bound: u8) -> u8
+        ensures { result < max bound 1 }
+    {
         self.state = self.state.wrapping_mul(1664525).wrapping_add(1013904223);
         let [_, _, _, high] = self.state.to_le_bytes();
         high % bound.max(1)
@@ -110,17 +128,12 @@ fn as_by_all_splits(rt: HostRuntime) {
             state: case.wrapping_mul(2654435761),
         };
         let rows = [source.row(0), source.row(1), source.row(2), source.row(3)];
-        let [a, b, c] = source.objects();
+        let objects = source.objects();
         let count = source.below(4);
         let chosen = [count > 0, count > 1, count > 2];
-        let low = [a <= 4, b <= 4, c <= 4];
+        let low = objects.map(|object| object <= 4);
         let expected = meets(5, &rows, 3, chosen, [low, [true, true, true]]);
-        let given = match count {
-            0 => answer(&rows, 3, &[], &mut scratch),
-            1 => answer(&rows, 3, &[a], &mut scratch),
-            2 => answer(&rows, 3, &[a, b], &mut scratch),
-            _ => answer(&rows, 3, &[a, b, c], &mut scratch),
-        };
+        let given = answer(&rows, 3, &objects[..usize::from(count)], &mut scratch);
         assert_eq!(rt; given, Some(expected));
         met = met.saturating_add(u32::from(expected));
     }

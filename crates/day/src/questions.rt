@@ -4,7 +4,7 @@ use crate::command::Question;
 use crate::pages::{list_file, save_file, save_page};
 use crate::session::Typing;
 use crate::trouble::Trouble;
-use node_check::{Scratch, satisfied, satisfies};
+use node_check::{Checker, Scratch};
 use schema::Schema;
 use std::alloc::{AllocError, Global};
 use triple::Store;
@@ -43,15 +43,13 @@ fn check_pair<S: Store, V: ValueTest>(
 ) -> Result<Answer, AllocError> {
     let table = typing.table(view.store.node_count(), view.schema.label_count())?;
     let mut scratch = Scratch::new();
-    Ok(Answer::Truth(satisfies(
-        view.schema.tables(),
-        view.store,
-        view.values,
-        table.as_slice(),
-        node,
-        label,
-        &mut scratch,
-    )))
+    let mut check = Checker {
+        tables: view.schema.tables(),
+        store: view.store,
+        values: view.values,
+        scratch: &mut scratch,
+    };
+    Ok(Answer::Truth(check.satisfies(table.as_slice(), node, label)))
 }
 
 // Every pair of a node and a label whose definition it satisfies under the typing.
@@ -62,16 +60,15 @@ fn check_all<S: Store, V: ValueTest>(
 ) -> Result<Answer, AllocError> {
     let table = typing.table(view.store.node_count(), view.schema.label_count())?;
     let mut scratch = Scratch::new();
+    let mut check = Checker {
+        tables: view.schema.tables(),
+        store: view.store,
+        values: view.values,
+        scratch: &mut scratch,
+    };
     let mut pairs = Vec::new(heap);
     for node in 0..view.store.node_count() {
-        let found = satisfied(
-            view.schema.tables(),
-            view.store,
-            view.values,
-            table.as_slice(),
-            node,
-            &mut scratch,
-        );
+        let found = check.satisfied(table.as_slice(), node);
         for label in 0..32 {
             if found[usize::from(label)] {
                 pairs.push((node, label))?;

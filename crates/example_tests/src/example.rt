@@ -1,7 +1,7 @@
 // An example: a draft, a value test and triples; what sweep, look and held answer for it.
 use crate::builder::DraftBuilder;
 use chain::ChainStore;
-use node_check::{Scratch, satisfies};
+use node_check::{Checker, Scratch};
 use schema::Schema;
 use std::alloc::{AllocError, Global};
 use std::process::Abort;
@@ -160,18 +160,15 @@ impl<'a, V: ValueTest + Copy + Drop> Example<'a, V> {
         let store = self.store()?;
         let bytes = self.bytes(heap, typing)?;
         let mut scratch = Scratch::new();
+        let mut check = Checker {
+            tables: &tables,
+            store: &store,
+            values: &self.values,
+            scratch: &mut scratch,
+        };
         let mut correct = true;
         for (node, label) in typing {
-            correct = correct
-                && satisfies(
-                    &tables,
-                    &store,
-                    &self.values,
-                    bytes.as_slice(),
-                    *node,
-                    *label,
-                    &mut scratch,
-                );
+            correct = correct && check.satisfies(bytes.as_slice(), *node, *label);
         }
         Ok(correct)
     }

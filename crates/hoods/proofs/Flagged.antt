@@ -1,5 +1,5 @@
 -- Rows with all that they name, and what a row stands for by these alone. Assumes nothing.
-use Rattle.std.proofs.Common.{◌≡◌, ℕ, ◌+◌, ◌<◌, ◌≤◌, Bool, true, false, cond, ltb, ◌⊎◌, ◌↔◌, List, length, get_or, set, Some as SomeMost, sym, refl, ap, ◌∙◌, subst, ap₂, inl, inr, ⊎_elim, arith, length-set, get_or-set_other, get_or-set_same}
+use Rattle.std.proofs.Common.{◌≡◌, ℕ, ◌+◌, ◌<◌, ◌≤◌, Bool, true, false, cond, ltb, List, length, get_or, Some as SomeMost, sym, refl, ap, subst, ap₂, inl, inr, ⊎_elim, arith}
 use Rattle.std.proofs.lemmas.Bool.{ltb-true, and_parts, cases_eq}
 use Rattle.shapes.specs.Expr.{Triple, empty, each, some, times}
 use Rattle.shapes.specs.Meaning.{Arcs, Relation, Met}
@@ -9,7 +9,8 @@ use Rattle.draft.specs.declared.rows.TripleRow.{TripleRow}
 use Rattle.draft.specs.declared.rows.TripleRow.TheVariants.{Empty, Arc, Each, Some, Times}
 use Rattle.masks.specs.Masks.{On}
 use Rattle.masks.proofs.Flags.{Upto, not_on}
-use Rattle.hoods.specs.Named.{Names, Whole}
+use Rattle.draft.specs.Named.{NamesTriple as Names}
+use Rattle.hoods.specs.Named.{Whole}
 
 pub named_below : (s l q : ℕ) (row : TripleRow) → triple_names s l q row ≡ true → (p : ℕ) → Names row p → p < q
 named_below s l q Empty e p n = elim n [ ]
@@ -34,34 +35,6 @@ From q rows flags = (r p : ℕ) → q ≤ r → r < length rows → On flags r �
 -- an expression that no arcs meet
 abbrev pub never : Triple
 never = times empty 1 (SomeMost 0)
-
--- a row of two rows names these
-pub names_two : (row : TripleRow) (x y : ℕ) → (row ≡ Each x y) ⊎ (row ≡ Some x y) → (p : ℕ) → Names row p ↔ ((x ≡ p) ⊎ (y ≡ p))
-names_two row x y (inl e) p = subst (λ z. Names z p ↔ ((x ≡ p) ⊎ (y ≡ p))) (sym e) (λ n. n, λ n. n)
-names_two row x y (inr e) p = subst (λ z. Names z p ↔ ((x ≡ p) ⊎ (y ≡ p))) (sym e) (λ n. n, λ n. n)
-
--- one flag more
-pub flag_set : (flags : List Bool) (x p : ℕ) → x < length flags → On (set flags x true) p ↔ (On flags p ⊎ (x ≡ p))
-flag_set flags x p l =
-    ⊎_elim
-    (λ (e : p ≡ x). (λ _. inr (sym e), λ _. subst (λ k. On (set flags x true) k) (sym e) (get_or-set_same flags x true false l)))
-    (λ (d : p ≡ x → ⊥). (
-      λ o. inl (sym (get_or-set_other flags x p true false d) ∙ o),
-      λ h. ⊎_elim (λ (o : On flags p). get_or-set_other flags x p true false d ∙ o) (λ (e : x ≡ p). absurd (d (sym e))) h,
-    ))
-    (cases_eq p x)
-
-pub flag_two : (flags : List Bool) (x y p : ℕ) → x < length flags → y < length flags → On (set (set flags x true) y true) p ↔ (On flags p ⊎ ((x ≡ p) ⊎ (y ≡ p)))
-flag_two flags x y p l m =
-    let two = flag_set (set flags x true) y p (omega (arith, length-set flags x true)) in
-    let one = flag_set flags x p l in (
-      λ o. ⊎_elim (λ (h : On (set flags x true) p). ⊎_elim inl (λ (e : x ≡ p). inr (inl e)) (one.0 h)) (λ (e : y ≡ p). inr (inr e)) (two.0 o),
-      λ h. ⊎_elim (λ (o : On flags p). two.1 (inl (one.1 (inl o)))) (λ (n : (x ≡ p) ⊎ (y ≡ p)). ⊎_elim (λ (e : x ≡ p). two.1 (inl (one.1 (inr e)))) (λ (e : y ≡ p). two.1 (inr e)) n) h,
-    )
-
-pub same_right : {A B C D : Type 0} → A ↔ (B ⊎ C) → D ↔ C → A ↔ (B ⊎ D)
-same_right f g =
-    (λ a. ⊎_elim inl (λ c. inr (g.1 c)) (f.0 a), λ h. f.1 (⊎_elim inl (λ d. inr (g.0 d)) h))
 
 -- what the rows with a flag stand for; the others, as if nothing met them
 abbrev pub flagged_tree : List Bool → List TripleRow → ℕ → Triple

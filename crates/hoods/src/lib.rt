@@ -3,6 +3,7 @@
 
 mod arcs;
 mod named;
+mod neighbourhood;
 mod read;
 mod rows;
 mod scratch;
@@ -10,5 +11,5 @@ mod typing;
 mod words;
 
 pub use arcs::NodeArcs;
-pub use rows::{met_asked, met_rows};
+pub use neighbourhood::Neighbourhood;
 pub use scratch::Scratch;

@@ -13,6 +13,7 @@ impl NodeArcs {
         store.lawful();
         let count = store.fan(node);
         let mut arcs = [(0, 0); 12];
+        // by the place: after a zip of iter_mut a proof knows nothing of what was written
         for place in 0..count {
             if let Some(arc) = store.arc(node, place) {
                 arcs[usize::from(place)] = arc;

@@ -6,95 +6,78 @@ ghost use Rattle.masks.specs.Masks.{On};
 ghost use Rattle.hoods.specs.Arcs.{arcs_of};
 ghost use Rattle.hoods.specs.Words.{Finds, Meets};
 
-use crate::arcs::NodeArcs;
 use crate::named::with_named;
+use crate::neighbourhood::Neighbourhood;
 use crate::scratch::{RowScratch, Scratch};
-use crate::typing::admit;
-use crate::words::{clear_words, pack, unpack};
+use crate::words::{pack, unpack};
 use draft::TripleRow;
 use masks::{MASKS, each, empty, single, some, times};
-use tables::LawfulTables;
 
-// Finds the masks that meet a row, given in the words those that meet the rows that it names.
-fn find_masks(
-    tables: &LawfulTables,
-    row: TripleRow,
-    arcs: &NodeArcs,
-    typing: &[u8],
-    words: &[u128; MASKS],
-    scratch: &mut RowScratch,
-)
-    requires { triple_names (length (held tables.now).sets) (length (held tables.now).definitions) 128 row ≡ true }
-    ensures { Finds (held tables.now) typing.now (arcs_of arcs.now) row words.now scratch.new.found }
-{
-    let fan = arcs.fan;
-    match row {
-        TripleRow::Empty => empty(fan, &mut scratch.found),
-        TripleRow::Arc(set, label) => {
-            let mut admitted = [false; 12];
-            admit(tables, arcs, typing, set, label, &mut admitted);
-            single(fan, &admitted, &mut scratch.found);
-        }
-        TripleRow::Each(x, y) => {
-            unpack(fan, words, x, &mut scratch.left);
-            unpack(fan, words, y, &mut scratch.right);
-            each(fan, &scratch.left, &scratch.right, &mut scratch.found);
-        }
-        TripleRow::Some(x, y) => {
-            unpack(fan, words, x, &mut scratch.left);
-            unpack(fan, words, y, &mut scratch.right);
-            some(fan, &scratch.left, &scratch.right, &mut scratch.found);
-        }
-        TripleRow::Times(x, least, most) => {
-            unpack(fan, words, x, &mut scratch.left);
-            times(
-                fan,
-                &scratch.left,
-                least,
-                most,
-                &mut scratch.counts,
-                &mut scratch.found,
-            );
+impl Neighbourhood<'_> {
+    // Finds the masks that meet a row, given in the words those that meet the rows that it names.
+    fn find_masks(&self, row: TripleRow, words: &[u128; MASKS], scratch: &mut RowScratch)
+        requires { triple_names (length (held self.now.tables.now).sets) (length (held self.now.tables.now).definitions) 128 row ≡ true }
+        ensures { Finds (held self.now.tables.now) self.now.typing.now (arcs_of self.now.arcs.now) row words.now scratch.new.found }
+    {
+        let fan = self.arcs.fan;
+        match row {
+            TripleRow::Empty => empty(fan, &mut scratch.found),
+            TripleRow::Arc(set, label) => {
+                let mut admitted = [false; 12];
+                self.admit(set, label, &mut admitted);
+                single(fan, &admitted, &mut scratch.found);
+            }
+            TripleRow::Each(x, y) => {
+                unpack(fan, words, x, &mut scratch.left);
+                unpack(fan, words, y, &mut scratch.right);
+                each(fan, &scratch.left, &scratch.right, &mut scratch.found);
+            }
+            TripleRow::Some(x, y) => {
+                unpack(fan, words, x, &mut scratch.left);
+                unpack(fan, words, y, &mut scratch.right);
+                some(fan, &scratch.left, &scratch.right, &mut scratch.found);
+            }
+            TripleRow::Times(x, least, most) => {
+                unpack(fan, words, x, &mut scratch.left);
+                times(
+                    fan,
+                    &scratch.left,
+                    least,
+                    most,
+                    &mut scratch.counts,
+                    &mut scratch.found,
+                );
+            }
         }
     }
-}
 
-// Flags triple rows that all the arcs together meet: every asked one, and no row that they do not meet.
-// A row that no asked row leads to is passed over.
-pub fn met_asked(
-    tables: &LawfulTables,
-    arcs: &NodeArcs,
-    typing: &[u8],
-    asked: &[bool; 128],
-    scratch: &mut Scratch,
-) -> [bool; 128]
-    ensures only { (p : ℕ) → On result p → Meets (held tables.now) typing.now (arcs_of arcs.now) p }
-    ensures asked { (p : ℕ) → On asked.now p → Meets (held tables.now) typing.now (arcs_of arcs.now) p → On result p }
-{
-    tables.lawful();
-    let last = arcs.fan.masks() - 1;
-    let needed = with_named(tables, asked);
-    clear_words(arcs.fan, &mut scratch.words);
-    let mut met = [false; 128];
-    for (r, row) in tables.triples().iter().enumerate() {
-        if needed[r] {
-            find_masks(tables, *row, arcs, typing, &scratch.words, &mut scratch.row);
-            pack(arcs.fan, &mut scratch.words, r, &scratch.row.found);
-            met[r] = scratch.row.found[last];
+    // Flags triple rows that all the arcs together meet: every asked one, and no row that they do not meet.
+    // A row that no asked row leads to is passed over.
+    pub fn met_asked(&self, asked: &[bool; 128], scratch: &mut Scratch) -> [bool; 128]
+        ensures only { (p : ℕ) → On result p → Meets (held self.now.tables.now) self.now.typing.now (arcs_of self.now.arcs.now) p }
+        ensures asked { (p : ℕ) → On asked.now p → Meets (held self.now.tables.now) self.now.typing.now (arcs_of self.now.arcs.now) p → On result p }
+    {
+        self.tables.lawful();
+        let fan = self.arcs.fan;
+        let last = fan.masks() - 1;
+        let needed = with_named(self.tables, asked);
+        scratch.words[..fan.masks()].fill(0);
+        let mut met = [false; 128];
+        for (r, row) in self.tables.triples().iter().enumerate() {
+            if needed[r] {
+                self.find_masks(*row, &scratch.words, &mut scratch.row);
+                pack(fan, &mut scratch.words, r, &scratch.row.found);
+                met[r] = scratch.row.found[last];
+            }
         }
+        met
     }
-    met
-}
 
-// Which triple rows all the arcs together meet.
-pub fn met_rows(
-    tables: &LawfulTables,
-    arcs: &NodeArcs,
-    typing: &[u8],
-    scratch: &mut Scratch,
-) -> [bool; 128]
-    ensures { (p : ℕ) → On result p ↔ Meets (held tables.now) typing.now (arcs_of arcs.now) p }
-{
-    tables.lawful();
-    met_asked(tables, arcs, typing, &[true; 128], scratch)
+    // Which triple rows all the arcs together meet.
+    pub fn met_rows(&self, scratch: &mut Scratch) -> [bool; 128]
+        ensures { (p : ℕ) → On result p ↔ Meets (held self.now.tables.now) self.now.typing.now (arcs_of self.now.arcs.now) p }
+    {
+        self.tables.lawful();
+        self.met_asked(&[true; 128], scratch)
+    }
 }

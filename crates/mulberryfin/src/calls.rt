@@ -2,7 +2,7 @@
 use crate::answer::Answer;
 use crate::command::Call;
 use crate::session::Session;
-use node_check::{Scratch, satisfied, satisfies};
+use node_check::{Checker, Scratch};
 use std::alloc::{AllocError, Global};
 use triple::{Store, StoreFault};
 use values::ValueTest;
@@ -41,15 +41,13 @@ fn check_pair<S: Store, V: ValueTest>(
     let schema = session.drafting.schema();
     let table = session.table(store.node_count(), schema.label_count())?;
     let mut scratch = Scratch::new();
-    Ok(Answer::Truth(satisfies(
-        schema.tables(),
+    let mut check = Checker {
+        tables: schema.tables(),
         store,
         values,
-        table.as_slice(),
-        node,
-        label,
-        &mut scratch,
-    )))
+        scratch: &mut scratch,
+    };
+    Ok(Answer::Truth(check.satisfies(table.as_slice(), node, label)))
 }
 
 // Every pair of a node and a label whose definition it satisfies under the typing.
@@ -61,16 +59,15 @@ fn check_all<S: Store, V: ValueTest>(
     let schema = session.drafting.schema();
     let table = session.table(store.node_count(), schema.label_count())?;
     let mut scratch = Scratch::new();
+    let mut check = Checker {
+        tables: schema.tables(),
+        store,
+        values,
+        scratch: &mut scratch,
+    };
     let mut pairs = Vec::new(session.heap);
     for node in 0..store.node_count() {
-        let found = satisfied(
-            schema.tables(),
-            store,
-            values,
-            table.as_slice(),
-            node,
-            &mut scratch,
-        );
+        let found = check.satisfied(table.as_slice(), node);
         for label in 0..32 {
             if found[usize::from(label)] {
                 pairs.push((node, label))?;

@@ -6,12 +6,13 @@ use Rattle.draft.specs.declared.rows.ShapeRow.{ShapeRow}
 use Rattle.draft.specs.declared.rows.ShapeRow.TheVariants.{Value, Hood, And, Or, Not}
 use Rattle.masks.specs.Masks.{On}
 use Rattle.masks.proofs.Flags.{not_on}
-use Rattle.hoods.proofs.Flagged.{flag_set}
-use Rattle.node_check.specs.Named.{Names, Hoods, Leads, here, on}
+use Rattle.draft.proofs.Flags.{flag_set}
+use Rattle.draft.specs.Named.{NamesShape as Names}
+use Rattle.node_check.specs.Named.{Hoods, Leads, here, on}
 
-pub names_two : (row : ShapeRow) (x y : ℕ) → (row ≡ And x y) ⊎ (row ≡ Or x y) → (p : ℕ) → Names row p ↔ ((x ≡ p) ⊎ (y ≡ p))
-names_two row x y (inl e) p = subst (λ z. Names z p ↔ ((x ≡ p) ⊎ (y ≡ p))) (sym e) (λ n. n, λ n. n)
-names_two row x y (inr e) p = subst (λ z. Names z p ↔ ((x ≡ p) ⊎ (y ≡ p))) (sym e) (λ n. n, λ n. n)
+pub same_right : {A B C D : Type 0} → A ↔ (B ⊎ C) → D ↔ C → A ↔ (B ⊎ D)
+same_right f g =
+    (λ a. ⊎_elim inl (λ c. inr (g.1 c)) (f.0 a), λ h. f.1 (⊎_elim inl (λ d. inr (g.0 d)) h))
 
 pub named_below : (n q : ℕ) (row : ShapeRow) → shape_names n q row ≡ true → (p : ℕ) → Names row p → p < q
 named_below n q (Value t) e p h = elim h [ ]

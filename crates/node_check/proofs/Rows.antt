@@ -18,7 +18,8 @@ use Rattle.masks.proofs.Flags.{Upto}
 use Rattle.hoods.specs.Typings.{typed}
 use Rattle.hoods.specs.Words.{Meets}
 use Rattle.node_check.specs.Answers.{Answered}
-use Rattle.node_check.specs.Named.{Names, Hoods, Leads, here, on, Asks}
+use Rattle.draft.specs.Named.{NamesShape as Names}
+use Rattle.node_check.specs.Named.{Hoods, Leads, here, on, Asks}
 use Rattle.node_check.specs.Shapes.{row_holds, Settled}
 use Rattle.node_check.proofs.Naming.{named_below, hood_below, leads_below}
 

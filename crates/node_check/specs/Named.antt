@@ -1,20 +1,13 @@
--- Which rows a shape row names, and where a definition leads. Assumes nothing.
---     Names row p           the row names the shape row p
+-- Which triple row a shape row names, and where a definition leads. Assumes nothing.
 --     Hoods row e           the row is the HOOD of the triple row e
 --     Leads rows d r        names lead from the row d to the row r; r = d counts
 --     Asks t wanted e       the definition of a wanted label leads to a HOOD of the triple row e
-use Rattle.std.specs.Prelude.{◌≡◌, ℕ, ◌<◌, Bool, ◌⊎◌, List, length, slice_index, slice_index_or}
+use Rattle.std.specs.Prelude.{◌≡◌, ℕ, ◌<◌, Bool, List, length, slice_index, slice_index_or}
+use Rattle.draft.specs.Named.{NamesShape}
 use Rattle.draft.specs.Tables.{Tables}
 use Rattle.draft.specs.declared.rows.ShapeRow.{ShapeRow}
 use Rattle.draft.specs.declared.rows.ShapeRow.TheVariants.{Value, Hood, And, Or, Not}
 use Rattle.masks.specs.Masks.{On}
-
-abbrev pub Names : ShapeRow → ℕ → Type 0
-Names (Value t) p = ⊥
-Names (Hood e) p = ⊥
-Names (And a b) p = (a ≡ p) ⊎ (b ≡ p)
-Names (Or a b) p = (a ≡ p) ⊎ (b ≡ p)
-Names (Not a) p = a ≡ p
 
 abbrev pub Hoods : ShapeRow → ℕ → Type 0
 Hoods (Value t) e = ⊥
@@ -25,7 +18,7 @@ Hoods (Not a) e = ⊥
 
 pub data Leads (rows : List ShapeRow) (d : ℕ) : ℕ → Type 0 where
   here : Leads rows d d
-  on : {r p : ℕ} → Leads rows d r → Names (slice_index_or rows r (Value 0)) p → Leads rows d p
+  on : {r p : ℕ} → Leads rows d r → NamesShape (slice_index_or rows r (Value 0)) p → Leads rows d p
 
 abbrev pub Asks : Tables → List Bool → ℕ → Type 0
 Asks t wanted e =

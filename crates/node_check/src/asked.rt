@@ -2,25 +2,10 @@
 ghost use Rattle.std.specs.Prelude.{ℕ, ◌<◌, ◌⊎◌, ◌↔◌, length, slice_index};
 ghost use Rattle.tables.specs.Held.{held};
 ghost use Rattle.masks.specs.Masks.{On};
-ghost use Rattle.node_check.specs.Named.{Names, Hoods, Asks};
+ghost use Rattle.node_check.specs.Named.{Hoods, Asks};
 
-use draft::ShapeRow;
+use draft::{ShapeRow, flag_named};
 use tables::LawfulTables;
-
-// Flags the shape rows that the row names.
-fn flag_named(row: ShapeRow, shapes: &mut [bool; 128])
-    requires { (p : ℕ) → Names row p → p < 128 }
-    ensures { (p : ℕ) → On shapes.new p ↔ (On shapes.old p ⊎ Names row p) }
-{
-    match row {
-        ShapeRow::Value(_) | ShapeRow::Hood(_) => {}
-        ShapeRow::And(a, b) | ShapeRow::Or(a, b) => {
-            shapes[usize::from(a)] = true;
-            shapes[usize::from(b)] = true;
-        }
-        ShapeRow::Not(a) => shapes[usize::from(a)] = true,
-    }
-}
 
 // Flags the triple row, if the row is a HOOD.
 fn flag_hood(row: ShapeRow, triples: &mut [bool; 128])
@@ -54,6 +39,7 @@ pub(crate) fn asked_rows(tables: &LawfulTables, wanted: &[bool; 32]) -> [bool; 1
     let rows = tables.shapes();
     let mut shapes = wanted_definitions(tables, wanted);
     let mut triples = [false; 128];
+    // by the number: the library has no law of rev after enumerate
     for r in (0..rows.len()).rev() {
         if shapes[r] {
             flag_named(rows[r], &mut shapes);

@@ -6,9 +6,8 @@ ghost use Rattle.schema.specs.Accepted.{meaning};
 ghost use Rattle.validator.specs.Marks.{Joined, Widens, LookedAt, AllDecided};
 
 use crate::memory::{Memory, PAIRS};
-use checker::Checker;
 use leaning::reach;
-use node_check::Scratch;
+use node_check::{Checker, Scratch};
 use refine::{NodeCheck, decide};
 use schema::Schema;
 use stack::Goal;

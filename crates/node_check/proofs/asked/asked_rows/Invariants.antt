@@ -2,7 +2,8 @@ use Rattle.std.proofs.Common.{◌≡◌, ℕ, ◌<◌, ◌≤◌, length, get_or
 use Rattle.draft.specs.declared.rows.ShapeRow.TheVariants.{Value}
 use Rattle.tables.specs.Held.{held}
 use Rattle.masks.specs.Masks.{On}
-use Rattle.node_check.specs.Named.{Names, Hoods}
+use Rattle.draft.specs.Named.{NamesShape as Names}
+use Rattle.node_check.specs.Named.{Hoods}
 use Rattle.node_check.proofs.asked.asked_rows.Given as goal
 
 abbrev pub invariant-loop-r : goal.invariant-loop-r

@@ -1,6 +1,7 @@
 use Rattle.std.proofs.Common.{◌≡◌, ◌<◌, true, ◌⊎◌, ◌↔◌, set, sym, refl, subst, arith}
 use Rattle.masks.specs.Masks.{On}
-use Rattle.hoods.proofs.Flagged.{flag_set, same_right}
+use Rattle.draft.proofs.Flags.{flag_set}
+use Rattle.node_check.proofs.Naming.{same_right}
 use Rattle.node_check.specs.Named.{Hoods}
 use Rattle.node_check.proofs.asked.flag_hood.Goals as goal
 

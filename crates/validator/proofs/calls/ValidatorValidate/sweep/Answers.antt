@@ -2,7 +2,7 @@ use Rattle.std.proofs.Common.{◌≡◌, ◌*◌, ◌≤◌, take, refl, ap, ◌
 use Rattle.std.proofs.lemmas.Nat.{mul-le}
 use Rattle.std.proofs.lemmas.Bool.{both_ways}
 use Rattle.node_check.specs.Answers.{graph as graph_of}
-use Rattle.checker.proofs.Typings.{inside_member}
+use Rattle.node_check.proofs.Typings.{inside_member}
 use Rattle.shapes.proofs.Leaning.{bounded_closed}
 use Rattle.ledger.specs.Steps.{SweepStep, ones}
 use Rattle.schema.specs.Accepted.{meaning}

@@ -1,6 +1,6 @@
 use Rattle.std.proofs.Common.{◌≡◌, ℕ, ◌*◌, ◌<◌, cond, eqb, get_or, ap, ◌∙◌, subst}
 use Rattle.node_check.specs.Answers.{graph}
-use Rattle.checker.proofs.Typings.{inside_member}
+use Rattle.node_check.proofs.Typings.{inside_member}
 use Rattle.shapes.specs.Bytes.{byte_typing}
 use Rattle.shapes.proofs.Leaning.{bounded_closed}
 use Rattle.schema.specs.Accepted.{meaning}

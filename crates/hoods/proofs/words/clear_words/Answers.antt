@@ -1,8 +1,0 @@
-use Rattle.std.proofs.Common.{◌<◌, ◌≢◌, length, arith, get_or-set_other, get_or-set_same, below_more}
-use Rattle.hoods.proofs.words.clear_words.Goals as goal
-
-pub loop-m-preserved : goal.loop-m-preserved
-loop-m-preserved c =
-    below_more _ _
-    (λ k h. let ne : k ≢ c.loop-m.m = omega arith in rw get_or-set_other (c.loop-m.invariant k h))
-    (let lt : c.loop-m.m < length c.loop-m.words = omega arith in rw get_or-set_same)
