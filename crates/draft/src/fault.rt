@@ -10,6 +10,7 @@ pub enum Table {
     Sets,
 }
 
+// Written out: thiserror would make a table an error too, and no derive of std prints names.
 impl fmt::Display for Table {
     fn fmt<W: fmt::Write>(&self, f: &mut fmt::Formatter<W>) -> fmt::Result {
         match self {

@@ -8,6 +8,7 @@ pub struct PropertySet {
 }
 
 impl PropertySet {
+    // The default set, as a constant: an array literal repeats it, and a call of default() is no constant.
     pub const EMPTY: PropertySet = PropertySet { words: [0; 4] };
 
     // The set whose property 64 × i + j is bit j of word i.
