@@ -30,6 +30,7 @@ impl From<Entry> for PageFault {
     }
 }
 
+// By hand: a derive by `thiserror` would make it a dependency of every crate above.
 impl fmt::Display for PageFault {
     fn fmt<W: fmt::Write>(&self, f: &mut fmt::Formatter<W>) -> fmt::Result {
         match self {

@@ -33,6 +33,7 @@ fn fits(calls: &[Call], answers: usize, bytes: usize) -> Result<(), Short>
     Ok(())
 }
 
+// What a call answers, or the fault that refuses it.
 fn attempt<A: Validate>(
     validator: &mut A,
     call: Call,

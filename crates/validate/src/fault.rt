@@ -26,6 +26,7 @@ impl From<StoreFault> for ValidatorFault {
     }
 }
 
+// By hand: a derive by `thiserror` would make it a dependency of every crate above.
 impl fmt::Display for ValidatorFault {
     fn fmt<W: fmt::Write>(&self, f: &mut fmt::Formatter<W>) -> fmt::Result {
         match self {

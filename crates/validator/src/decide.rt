@@ -14,7 +14,8 @@ use stack::Goal;
 use triple::Store;
 use values::ValueTest;
 
-// Sets the bytes of the wanted pairs.
+// Sets the bytes of the wanted pairs. Here and below one slice is written by place: what a loop over `zip` writes
+// through `iter_mut` is not known to the check.
 fn hold(size: usize, wanted: &[u8], held: &mut [u8])
     requires wanted_long { size ≤ length wanted.now }
     requires held_long { size ≤ length held.old }

@@ -14,6 +14,7 @@ use values::ValueTest;
 pub(crate) const PAIRS: usize = 8192;
 
 // A pair is held if its byte in `held` is 1; then its byte in `verdicts` is 1 for yes. The rest is memory to work in.
+// Bytes, and no `Option<bool>` for each pair: the check of a node reads the verdicts as a table in its callers' format.
 #[derive(Drop)]
 pub(crate) struct Memory {
     pub(crate) held: [u8; PAIRS],

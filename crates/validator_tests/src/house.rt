@@ -1,12 +1,13 @@
 // The small house: two shows that follow each other, and the running time of both.
-use crate::schemas::accepted;
+use crate::schemas::schema_of;
+use crate::world::t;
 use chain::ChainStore;
 use draft::{Draft, PropertySet, ShapeRow, TripleRow};
 use rows::RowStore;
 use schema::Schema;
 use std::process::Abort;
 use std::test::Fail;
-use triple::{Store, Triple};
+use triple::Store;
 use validate::Validate;
 use validator::Validator;
 use values::{AnswerSheet, Term, TermKind, TermTable, Test, ValueTest};
@@ -48,18 +49,7 @@ fn house_schema() -> Result<Schema, Fail> {
         triples: &triples,
         sets: &sets,
     };
-    match accepted(&draft) {
-        Some(schema) => Ok(schema),
-        None => Err(Fail::new("the schema is refused")),
-    }
-}
-
-fn t(subject: u16, property: u8, object: u16) -> Triple {
-    Triple {
-        subject,
-        property,
-        object,
-    }
+    schema_of(&draft)
 }
 
 fn fill<S: Store>(rt: &impl Abort, store: &mut S) {

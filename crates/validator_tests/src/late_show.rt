@@ -1,12 +1,13 @@
 // The late show: the running time of its feature is corrected two triples away from the show.
-use crate::schemas::accepted;
+use crate::schemas::schema_of;
+use crate::world::t;
 use chain::ChainStore;
 use draft::{Draft, PropertySet, ShapeRow, TripleRow};
 use rows::RowStore;
 use schema::Schema;
 use std::process::Abort;
 use std::test::Fail;
-use triple::{Store, Triple};
+use triple::Store;
 use validate::Validate;
 use validator::Validator;
 use values::{Term, TermKind, TermTable, Test, ValueTest};
@@ -51,18 +52,7 @@ fn show_schema() -> Result<Schema, Fail> {
         triples: &[TripleRow::Arc(0, 1), TripleRow::Arc(1, 2)],
         sets: &sets,
     };
-    match accepted(&draft) {
-        Some(schema) => Ok(schema),
-        None => Err(Fail::new("the schema is refused")),
-    }
-}
-
-fn t(subject: u16, property: u8, object: u16) -> Triple {
-    Triple {
-        subject,
-        property,
-        object,
-    }
+    schema_of(&draft)
 }
 
 fn check_pair<A: Validate>(

@@ -1,6 +1,6 @@
 // Long lists of calls over both kinds of store and both kinds of value test.
 use crate::calls::Source;
-use crate::schemas::{Rows, accepted, groups, levels, random_rows};
+use crate::schemas::{Rows, accepted, groups, levels, random_rows, schema_of};
 use crate::wander::{Tally, wander};
 use crate::world::{TESTS, bytes, facts, terms};
 use chain::ChainStore;
@@ -51,9 +51,7 @@ fn run<S: Store + Drop, V: ValueTest + Drop>(
     values: V,
     tally: &mut Tally,
 ) -> Result<(), Fail> {
-    let Some(schema) = accepted(draft) else {
-        return Err(Fail::new("the schema is refused"));
-    };
+    let schema = schema_of(draft)?;
     let known = facts(plan.heap, plan.nodes.saturating_sub(1))?;
     let capacity = usize::from(store.capacity());
     let mut book = Book::new(plan.heap, *draft, known, plan.nodes, capacity)?;
@@ -103,7 +101,7 @@ fn every_kind(rt: &impl Abort, plan: Plan, rows: &Rows, tally: &mut Tally) -> Re
 
 #[test]
 fn small_houses(rt: HostRuntime) -> Result<(), Fail> {
-    let mut tally = Tally::NONE;
+    let mut tally = Tally::default();
     for seed in 0..10u32 {
         let plan = Plan {
             heap: rt.alloc(),
@@ -131,7 +129,7 @@ fn is_stratified(heap: Global, draft: &Draft) -> Result<bool, Fail> {
 
 #[test]
 fn random_schemas(rt: HostRuntime) -> Result<(), Fail> {
-    let mut tally = Tally::NONE;
+    let mut tally = Tally::default();
     let mut source = Source { state: 1117 };
     for seed in 0..300u32 {
         let plan = Plan {
@@ -158,7 +156,7 @@ fn random_schemas(rt: HostRuntime) -> Result<(), Fail> {
 
 #[test]
 fn wide_houses(rt: HostRuntime) -> Result<(), Fail> {
-    let mut tally = Tally::NONE;
+    let mut tally = Tally::default();
     for (nodes, ring) in [(40, 39), (255, 60), (256, 256)] {
         let plan = Plan {
             heap: rt.alloc(),

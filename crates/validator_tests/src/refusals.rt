@@ -1,5 +1,6 @@
 // Every refusal, in a fresh state, after looks and after a sweep; and that it changes nothing.
-use crate::schemas::accepted;
+use crate::schemas::schema_of;
+use crate::world::t;
 use chain::ChainStore;
 use draft::{Draft, PropertySet, ShapeRow, TripleRow};
 use refusal::{Fault, Layer};
@@ -7,7 +8,7 @@ use rows::RowStore;
 use schema::Schema;
 use std::process::Abort;
 use std::test::Fail;
-use triple::{Store, Triple};
+use triple::Store;
 use validate::{Validate, ValidatorFault};
 use validator::Validator;
 use values::{AnswerSheet, Term, TermKind, TermTable, Test, ValueTest};
@@ -16,14 +17,6 @@ use values::{AnswerSheet, Term, TermKind, TermTable, Test, ValueTest};
 const LITERAL: u16 = 43;
 
 const NODES: u16 = 60;
-
-fn t(subject: u16, property: u8, object: u16) -> Triple {
-    Triple {
-        subject,
-        property,
-        object,
-    }
-}
 
 // Label 0: all arcs go to label 0. Label 1: not exactly one arc, with property 7, to label 0.
 fn two_strata() -> Result<Schema, Fail> {
@@ -42,10 +35,7 @@ fn two_strata() -> Result<Schema, Fail> {
         ],
         sets: &sets,
     };
-    match accepted(&draft) {
-        Some(schema) => Ok(schema),
-        None => Err(Fail::new("the schema is refused")),
-    }
+    schema_of(&draft)
 }
 
 // 12 arcs at each of the nodes 0 to 41, 7 at node 42, one at the literal: 512.
@@ -57,10 +47,7 @@ fn fill<S: Store>(rt: &impl Abort, store: &mut S) {
 }
 
 fn refusal<T: Drop>(res: Result<T, ValidatorFault>) -> Option<(Layer, u8)> {
-    match res {
-        Ok(_) => None,
-        Err(fault) => Some((fault.layer(), fault.number())),
-    }
+    res.err().map(|fault| (fault.layer(), fault.number()))
 }
 
 // All that can be asked: the arcs in the store's order, and the held verdicts.
@@ -75,10 +62,8 @@ fn arc_at<S: Store>(store: &S, at: usize) -> Option<(u8, u16)> {
 }
 
 fn held_at<A: Validate>(validator: &A, at: usize) -> Option<bool> {
-    match validator.held(((at / 2) & 0xff) as u16, (at % 2) as u8) {
-        Ok(verdict) => verdict,
-        Err(_) => None,
-    }
+    let held = validator.held(((at / 2) & 0xff) as u16, (at % 2) as u8);
+    held.unwrap_or(None)
 }
 
 impl Snapshot {

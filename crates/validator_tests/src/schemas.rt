@@ -2,6 +2,7 @@
 use crate::calls::Source;
 use draft::{Draft, PropertySet, ShapeRow, TripleRow};
 use schema::Schema;
+use std::test::Fail;
 
 // The tables of a draft.
 #[derive(Clone, Copy)]
@@ -37,10 +38,13 @@ impl Rows {
 // The schema of the draft, if it is accepted.
 pub(crate) fn accepted(draft: &Draft) -> Option<Schema> {
     let mut schema = Schema::new();
-    match schema.accept(draft) {
-        Ok(()) => Some(schema),
-        Err(_) => None,
-    }
+    schema.accept(draft).ok()?;
+    Some(schema)
+}
+
+// The schema of a draft that is to be accepted.
+pub(crate) fn schema_of(draft: &Draft) -> Result<Schema, Fail> {
+    accepted(draft).ok_or_else(|| Fail::new("the schema is refused"))
 }
 
 // Every label above 0 refers under a NOT to the one before it; 0 and 2 refer to themselves.

@@ -1,6 +1,6 @@
 // A list of calls on the book and on a validator: equal answers, equal tables, equal state.
 use crate::calls::Source;
-use model::{Book, same, same_held, same_triples};
+use model::{Book, same_held, same_triples};
 use replay::{Answer, Call, replay};
 use std::alloc::{AllocError, Global};
 use std::process::Abort;
@@ -11,7 +11,7 @@ use validator::Validator;
 use values::ValueTest;
 
 // How many answers of each kind there were.
-#[derive(Clone, Copy)]
+#[derive(Clone, Copy, Default)]
 pub(crate) struct Tally {
     pub(crate) accepted: usize,
     pub(crate) yes: usize,
@@ -23,16 +23,6 @@ pub(crate) struct Tally {
 }
 
 impl Tally {
-    pub(crate) const NONE: Tally = Tally {
-        accepted: 0,
-        yes: 0,
-        no: 0,
-        held: 0,
-        not_held: 0,
-        swept: 0,
-        refused: 0,
-    };
-
     fn count(&mut self, answer: Answer) {
         match answer {
             Answer::Accepted => self.accepted = self.accepted.saturating_add(1),
@@ -68,17 +58,11 @@ struct Expected {
 impl Expected {
     // Makes the call on the book; its table, 9 before the call, goes behind the others.
     fn extend(&mut self, heap: Global, book: &mut Book, call: Call) -> Result<(), AllocError> {
-        let room = match call {
-            Call::Sweep(sweep) => usize::from(sweep.room),
-            _ => 0,
-        };
-        let mut table = vec![in heap; 9; room]?;
+        let mut table = vec![in heap; 9; usize::from(call.room())]?;
         self.calls.push(call)?;
         self.answers
             .push(book.perform(call, table.as_mut_slice())?)?;
-        for byte in table.as_slice() {
-            self.tables.push(*byte)?;
-        }
+        self.tables.extend_from_slice(table.as_slice())?;
         Ok(())
     }
 }
@@ -112,17 +96,19 @@ fn compare_answers<A: Validate>(
 ) -> Result<(), Fail> {
     let mut answers = vec![in heap; Answer::Accepted; list.calls.len()]?;
     let mut tables = vec![in heap; 9; list.tables.len()]?;
-    assert!(rt;
-        replay(
-            validator,
-            list.calls.as_slice(),
-            answers.as_mut_slice(),
-            tables.as_mut_slice(),
-        )
+    let ran = replay(
+        validator,
+        list.calls.as_slice(),
+        answers.as_mut_slice(),
+        tables.as_mut_slice(),
     );
-    for (given, expected) in answers.as_slice().iter().zip(list.answers.as_slice()) {
-        assert!(rt; same(*given, *expected), "an answer");
-        tally.count(*expected);
+    assert!(rt; ran.is_ok());
+    assert!(rt;
+        answers.as_slice() == list.answers.as_slice(),
+        "the answers"
+    );
+    for answer in list.answers.as_slice() {
+        tally.count(*answer);
     }
     assert!(rt; tables.as_slice() == list.tables.as_slice(), "a table");
     Ok(())

@@ -1,7 +1,16 @@
 // Nodes of several kinds: as a term table, as the bytes of an answer sheet, and as plain facts.
 use model::Facts;
 use std::alloc::{AllocError, Global};
+use triple::Triple;
 use values::{Term, TermKind, Test};
+
+pub(crate) fn t(subject: u16, property: u8, object: u16) -> Triple {
+    Triple {
+        subject,
+        property,
+        object,
+    }
+}
 
 pub(crate) const TESTS: [Test; 4] = [
     Test::Whole(0, 9),
