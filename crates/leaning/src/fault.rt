@@ -1,6 +1,10 @@
-// Why a search is refused: there is no such pair, or a slice has fewer elements than there are pairs.
-#[derive(Clone, Copy, PartialEq, Eq, Debug)]
+// Why a search is refused.
+use thiserror::Error;
+
+#[derive(Clone, Copy, PartialEq, Eq, Debug, Error)]
 pub enum ReachFault {
+    #[error("there is no such pair")]
     NoPair,
+    #[error("a slice has fewer elements than there are pairs")]
     ShortSlice,
 }

@@ -2,7 +2,7 @@
 ghost use Rattle.std.specs.Prelude.{◌≡◌};
 ghost use Rattle.page.specs.declared.fault.PageFault.TheVariants.{Add};
 
-use std::fmt;
+use thiserror::Error;
 use validate::ValidatorFault;
 
 // An entry of a page, counted from 0, with the whole fault of its add.
@@ -12,13 +12,19 @@ pub struct Entry {
     pub fault: ValidatorFault,
 }
 
-#[derive(Clone, Copy, PartialEq, Eq, Debug)]
+#[derive(Clone, Copy, PartialEq, Eq, Debug, Error)]
 pub enum PageFault {
+    #[error("the page is too short for its nodes")]
     Short,
+    #[error("the page is of another number of nodes")]
     OtherCount,
+    #[error("node {0} has a fan above 12")]
     Fan(u16),
+    #[error("the length of the page does not fit its fans")]
     Length,
+    #[error("entry {at} was refused: {fault}", at = .0.at, fault = .0.fault)]
     Add(Entry),
+    #[error("the buffer is too short for the page")]
     SmallBuffer,
 }
 
@@ -27,23 +33,5 @@ impl From<Entry> for PageFault {
 
     fn from(entry: Entry) -> PageFault {
         PageFault::Add(entry)
-    }
-}
-
-// By hand: a derive by `thiserror` would make it a dependency of every crate above.
-impl fmt::Display for PageFault {
-    fn fmt<W: fmt::Write>(&self, f: &mut fmt::Formatter<W>) -> fmt::Result {
-        match self {
-            PageFault::Short => write!(f, "the page is too short for its nodes"),
-            PageFault::OtherCount => write!(f, "the page is of another number of nodes"),
-            PageFault::Fan(node) => write!(f, "node {node} has a fan above 12"),
-            PageFault::Length => write!(f, "the length of the page does not fit its fans"),
-            PageFault::Add(entry) => {
-                let at = entry.at;
-                let fault = entry.fault;
-                write!(f, "entry {at} was refused: {fault}")
-            }
-            PageFault::SmallBuffer => write!(f, "the buffer is too short for the page"),
-        }
     }
 }

@@ -6,19 +6,14 @@ use crate::check::NodeCheck;
 use crate::due::Due;
 use crate::narrow::narrow;
 use crate::write::write_where;
-use std::fmt;
+use thiserror::Error;
 
 const LAST_STRATUM: u8 = 32;
 
 /// A slice does not have a byte for each label or pair.
-#[derive(Clone, Copy, PartialEq, Eq, Debug)]
+#[derive(Clone, Copy, PartialEq, Eq, Debug, Error)]
+#[error("a slice is too short")]
 pub struct TooShort;
-
-impl fmt::Display for TooShort {
-    fn fmt<W: fmt::Write>(&self, f: &mut fmt::Formatter<W>) -> fmt::Result {
-        write!(f, "a slice is too short")
-    }
-}
 
 // Whether the slices have a stratum for each label and a byte for each pair.
 fn has_room(

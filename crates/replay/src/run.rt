@@ -7,12 +7,15 @@ ghost use Rattle.validate.specs.Promise.{Under, Keeps};
 ghost use Rattle.replay.specs.Runs.{all_lent, reply, room_for, Step, Runs, Best};
 
 use crate::call::{Answer, Call};
+use thiserror::Error;
 use validate::{Validate, ValidatorFault};
 
 /// What there is too little of for a list of calls.
-#[derive(Clone, Copy, PartialEq, Eq, Debug)]
+#[derive(Clone, Copy, PartialEq, Eq, Debug, Error)]
 pub enum Short {
+    #[error("there are fewer answers than calls")]
     Answers,
+    #[error("there are fewer bytes than the tables of the sweeps have")]
     Tables,
 }
 

@@ -2,19 +2,28 @@
 ghost use Rattle.std.specs.Prelude.{◌≡◌};
 ghost use Rattle.validate.specs.declared.fault.ValidatorFault.TheVariants.{Store};
 
-use std::fmt;
+use thiserror::Error;
 use triple::StoreFault;
 
-#[derive(Clone, Copy, PartialEq, Eq, Debug)]
+#[derive(Clone, Copy, PartialEq, Eq, Debug, Error)]
 pub enum ValidatorFault {
+    #[error("the subject is not a node of the store")]
     NoSubject,
+    #[error("the object is not a node of the store")]
     NoObject,
+    #[error("the subject is a literal")]
     Literal,
+    #[error("there is no such node")]
     NoNode,
+    #[error("there is no such label")]
     NoLabel,
+    #[error("there are fewer strata than labels")]
     FewStrata,
+    #[error("the strata are no stratification")]
     NoStratification,
+    #[error("the table has fewer bytes than pairs")]
     ShortTable,
+    #[error("{0}")]
     Store(StoreFault),
 }
 
@@ -23,22 +32,5 @@ impl From<StoreFault> for ValidatorFault {
 
     fn from(fault: StoreFault) -> ValidatorFault {
         ValidatorFault::Store(fault)
-    }
-}
-
-// By hand: a derive by `thiserror` would make it a dependency of every crate above.
-impl fmt::Display for ValidatorFault {
-    fn fmt<W: fmt::Write>(&self, f: &mut fmt::Formatter<W>) -> fmt::Result {
-        match self {
-            ValidatorFault::NoSubject => write!(f, "the subject is not a node of the store"),
-            ValidatorFault::NoObject => write!(f, "the object is not a node of the store"),
-            ValidatorFault::Literal => write!(f, "the subject is a literal"),
-            ValidatorFault::NoNode => write!(f, "there is no such node"),
-            ValidatorFault::NoLabel => write!(f, "there is no such label"),
-            ValidatorFault::FewStrata => write!(f, "there are fewer strata than labels"),
-            ValidatorFault::NoStratification => write!(f, "the strata are no stratification"),
-            ValidatorFault::ShortTable => write!(f, "the table has fewer bytes than pairs"),
-            ValidatorFault::Store(fault) => write!(f, "{fault}"),
-        }
     }
 }
