@@ -10,6 +10,7 @@ use chain::ChainStore;
 use draft::SchemaFault;
 use node_check::{Checker, Scratch};
 use schema::Schema;
+use tables::LawfulTables;
 use values::{Term, TermKind, TermTable};
 
 // Four nodes that have the same arcs, and the twelve objects.
@@ -22,6 +23,22 @@ const TERMS: [Term; 16] = [Term {
 // Every node has both labels.
 const TYPING: [u8; 32] = [1; 32];
 
+fn satisfies_by_masks(
+    tables: &LawfulTables,
+    store: &ChainStore,
+    values: &TermTable,
+    node: u16,
+    scratch: &mut Scratch,
+) -> bool {
+    let mut check = Checker {
+        tables,
+        store,
+        values,
+        scratch,
+    };
+    check.satisfies(&TYPING, node, 0)
+}
+
 // The first four nodes are asked about in turn.
 #[derive(Drop)]
 struct ByMasks<'a> {
@@ -33,13 +50,8 @@ struct ByMasks<'a> {
 impl Work for ByMasks<'_> {
     fn call(&mut self, turn: u16) -> bool {
         let values = TermTable::new(&TERMS, &TESTS);
-        let mut check = Checker {
-            tables: self.schema.tables(),
-            store: self.store,
-            values: &values,
-            scratch: &mut self.scratch,
-        };
-        check.satisfies(&TYPING, turn % 4, 0)
+        let tables = self.schema.tables();
+        satisfies_by_masks(tables, self.store, &values, turn % 4, &mut self.scratch)
     }
 }
 
