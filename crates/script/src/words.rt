@@ -1,0 +1,31 @@
+// The arguments of a command, word by word.
+use crate::expected::Expected;
+use std::str::{FromStr, SplitWhitespace};
+use triple::Triple;
+
+// The next word as a number.
+pub fn read_number<N: FromStr>(
+    words: &mut SplitWhitespace,
+    expected: Expected,
+) -> Result<N, Expected>
+where
+    N::Err: Drop,
+{
+    let word = words.next().ok_or(expected)?;
+    word.parse::<N>().map_err(|_| expected)
+}
+
+pub fn read_node(words: &mut SplitWhitespace) -> Result<u16, Expected> {
+    read_number(words, Expected::Node)
+}
+
+pub fn read_triple(words: &mut SplitWhitespace) -> Result<Triple, Expected> {
+    let subject = read_node(words)?;
+    let property = read_number(words, Expected::Property)?;
+    let object = read_node(words)?;
+    Ok(Triple {
+        subject,
+        property,
+        object,
+    })
+}
