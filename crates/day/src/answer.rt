@@ -2,6 +2,7 @@
 use crate::call_answer::CallAnswer;
 use crate::pages::PageAnswer;
 use draft::SchemaFault;
+use refusal::Fault;
 use std::fmt;
 use triple::StoreFault;
 
@@ -43,10 +44,10 @@ impl fmt::Display for Answer {
             Answer::ShapeRow(count) => write_number(f, "shape row", *count),
             Answer::Label(count) => write_number(f, "label", *count),
             Answer::Schema(labels) => write!(f, "accepted, {labels} labels"),
-            Answer::SchemaRefused(fault) => write_schema_fault(f, *fault),
+            Answer::SchemaRefused(fault) => write_fault(f, fault),
             Answer::Strata(bytes, labels) => write_strata(f, bytes, *labels),
             Answer::Accepted => write!(f, "accepted"),
-            Answer::Refused(fault) => write_store_fault(f, *fault),
+            Answer::Refused(fault) => write_fault(f, fault),
             Answer::Fan(fan) => write!(f, "{fan}"),
             Answer::Arc(Some((property, object))) => write!(f, "({property}, {object})"),
             Answer::Arc(None) => write!(f, "no arc"),
@@ -62,13 +63,10 @@ impl fmt::Display for Answer {
     }
 }
 
-fn write_schema_fault<W: fmt::Write>(f: &mut fmt::Formatter<W>, fault: SchemaFault) -> fmt::Result {
-    let number = fault.number();
-    let layer = fault.layer();
-    write!(f, "refused with {number} by the {layer}: {fault}")
-}
-
-fn write_store_fault<W: fmt::Write>(f: &mut fmt::Formatter<W>, fault: StoreFault) -> fmt::Result {
+fn write_fault<W: fmt::Write, F: Fault + fmt::Display>(
+    f: &mut fmt::Formatter<W>,
+    fault: &F,
+) -> fmt::Result {
     let number = fault.number();
     let layer = fault.layer();
     write!(f, "refused with {number} by the {layer}: {fault}")

@@ -2,6 +2,7 @@
 use crate::listing::{Listing, count_of};
 use crate::trouble::Trouble;
 use page::{PageFault, load, save};
+use refusal::Fault;
 use rows::{Row, RowStore};
 use schema::Schema;
 use std::alloc::Global;

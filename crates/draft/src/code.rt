@@ -3,7 +3,7 @@ ghost use Rattle.std.specs.Prelude.{◌≡◌};
 ghost use Rattle.draft.specs.Refusals.{limit, told};
 
 use crate::fault::{SchemaFault, Table};
-use refusal::Layer;
+use refusal::{Fault, Layer};
 
 impl Table {
     pub fn limit(&self) -> u8
@@ -17,10 +17,10 @@ impl Table {
     }
 }
 
-impl SchemaFault {
-    pub fn number(&self) -> u8
-        ensures { result ≡ (told self.now).1 }
-    {
+impl Fault for SchemaFault {
+    ghost refusal = { λ fault. ((told fault).0, (told fault).1) };
+
+    fn number(&self) -> u8 {
         match self {
             SchemaFault::TooLong(_) => 1,
             SchemaFault::Definition(_) => 2,
@@ -32,9 +32,7 @@ impl SchemaFault {
         }
     }
 
-    pub fn layer(&self) -> Layer
-        ensures { result ≡ (told self.now).0 }
-    {
+    fn layer(&self) -> Layer {
         Layer::Schema
     }
 }

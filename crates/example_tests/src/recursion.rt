@@ -2,6 +2,7 @@
 use crate::builder::{DraftBuilder, only};
 use crate::example::Example;
 use draft::{SchemaFault, ShapeRow};
+use refusal::Fault;
 use schema::Schema;
 use std::alloc::{AllocError, Global};
 use std::test::*;

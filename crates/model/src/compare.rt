@@ -1,5 +1,6 @@
 // Whether a validator and its store are as the book says.
 use crate::book::Book;
+use refusal::Fault;
 use replay::Answer;
 use std::alloc::AllocError;
 use triple::{Store, Triple};

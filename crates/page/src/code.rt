@@ -1,14 +1,13 @@
 // The layer and the number that a fault of a page stands for.
-ghost use Rattle.std.specs.Prelude.{◌≡◌};
 ghost use Rattle.page.specs.Faults.{code};
 
 use crate::fault::PageFault;
-use refusal::Layer;
+use refusal::{Fault, Layer};
 
-impl PageFault {
-    pub fn number(&self) -> u8
-        ensures { result ≡ (code self.now).0.1 }
-    {
+impl Fault for PageFault {
+    ghost refusal = { λ fault. (code fault).0 };
+
+    fn number(&self) -> u8 {
         match self {
             PageFault::Short => 18,
             PageFault::OtherCount => 19,
@@ -19,9 +18,7 @@ impl PageFault {
         }
     }
 
-    pub fn layer(&self) -> Layer
-        ensures { result ≡ (code self.now).0.0 }
-    {
+    fn layer(&self) -> Layer {
         Layer::Page
     }
 }

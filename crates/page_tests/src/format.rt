@@ -1,6 +1,6 @@
 // The format of a page, read and written once more: two bytes of count, a byte of fan a node, properties, objects.
 use page::PageFault;
-use refusal::Layer;
+use refusal::{Fault, Layer};
 use std::alloc::{AllocError, Global};
 use triple::{Store, Triple};
 

@@ -3,7 +3,7 @@ use crate::format::{Outcome, entries, refusal, told};
 use draft::{Draft, PropertySet, ShapeRow, TripleRow};
 use model::{Book, Facts, same_held, same_triples};
 use page::load;
-use refusal::Layer;
+use refusal::{Fault, Layer};
 use replay::Answer;
 use schema::Schema;
 use std::alloc::{AllocError, Global};

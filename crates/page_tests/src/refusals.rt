@@ -4,7 +4,7 @@ use crate::format::Outcome;
 use crate::loads::{load_fresh, t};
 use chain::ChainStore;
 use page::save;
-use refusal::Layer;
+use refusal::{Fault, Layer};
 use std::alloc::Global;
 use std::process::Abort;
 use std::test::Fail;

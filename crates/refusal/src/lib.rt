@@ -1,6 +1,9 @@
 // The layers of the validator: every refusal names the one where it arose.
 #![tactic(auto)]
 
+mod fault;
+
+pub use crate::fault::Fault;
 use std::fmt;
 
 #[derive(Clone, Copy, PartialEq, Eq, Debug)]

@@ -7,6 +7,7 @@ ghost use Rattle.validate.specs.Promise.{Under, Keeps};
 ghost use Rattle.replay.specs.Runs.{lent, all_lent, Step, Runs, Best};
 
 use crate::call::{Answer, Call};
+use refusal::Fault;
 use validate::{Validate, ValidatorFault};
 
 fn room_of(call: Call) -> usize

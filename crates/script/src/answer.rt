@@ -1,7 +1,7 @@
 // What a command answers, and how it is printed.
 use crate::joined::Joined;
 use draft::SchemaFault;
-use crate::fault::Fault;
+use refusal::Fault;
 use std::fmt;
 use triple::StoreFault;
 

@@ -1,6 +1,7 @@
 // Runs of calls on a store and on the model beside it.
 use crate::model::Model;
 use std::alloc::Global;
+use refusal::Fault;
 use std::process::Abort;
 use std::test::Fail;
 use triple::{Store, StoreFault, Triple};

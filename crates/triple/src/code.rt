@@ -1,14 +1,13 @@
 // The layer and the number that a fault of a store stands for.
-ghost use Rattle.std.specs.Prelude.{◌≡◌};
 ghost use Rattle.triple.specs.Faults.{code};
 
 use crate::fault::StoreFault;
-use refusal::Layer;
+use refusal::{Fault, Layer};
 
-impl StoreFault {
-    pub fn number(&self) -> u8
-        ensures { result ≡ (code self.now).1 }
-    {
+impl Fault for StoreFault {
+    ghost refusal = { code };
+
+    fn number(&self) -> u8 {
         match self {
             StoreFault::NoSubject => 7,
             StoreFault::NoObject => 8,
@@ -19,9 +18,7 @@ impl StoreFault {
         }
     }
 
-    pub fn layer(&self) -> Layer
-        ensures { result ≡ (code self.now).0 }
-    {
+    fn layer(&self) -> Layer {
         Layer::Store
     }
 }

@@ -1,14 +1,13 @@
 // The layer and the number that a fault of a validator stands for.
-ghost use Rattle.std.specs.Prelude.{◌≡◌};
 ghost use Rattle.validate.specs.Faults.{code};
 
 use crate::fault::ValidatorFault;
-use refusal::Layer;
+use refusal::{Fault, Layer};
 
-impl ValidatorFault {
-    pub fn number(&self) -> u8
-        ensures { result ≡ (code self.now).1 }
-    {
+impl Fault for ValidatorFault {
+    ghost refusal = { code };
+
+    fn number(&self) -> u8 {
         match self {
             ValidatorFault::NoSubject | ValidatorFault::NoNode => 7,
             ValidatorFault::NoObject => 8,
@@ -21,9 +20,7 @@ impl ValidatorFault {
         }
     }
 
-    pub fn layer(&self) -> Layer
-        ensures { result ≡ (code self.now).0 }
-    {
+    fn layer(&self) -> Layer {
         match self {
             ValidatorFault::Store(fault) => fault.layer(),
             _ => Layer::Validator,

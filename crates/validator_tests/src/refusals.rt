@@ -2,7 +2,7 @@
 use crate::schemas::accepted;
 use chain::ChainStore;
 use draft::{Draft, PropertySet, ShapeRow, TripleRow};
-use refusal::Layer;
+use refusal::{Fault, Layer};
 use rows::{Row, RowStore};
 use schema::Schema;
 use std::process::Abort;
