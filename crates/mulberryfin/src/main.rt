@@ -2,7 +2,8 @@
 #![tactic(auto)]
 
 use script::{
-    Description, Line, OpenHouse, OverStore, carry_out_all, list, read_lines, read_script, run_house,
+    Description, Line, OpenHouse, OverStore, carry_out_all, list, read_lines, read_script,
+    run_house,
 };
 use std::convert::Infallible;
 use triple::Store;

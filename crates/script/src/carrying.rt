@@ -12,6 +12,7 @@ use triple::Store;
 // What carries out lines, up to the first that it leaves to what comes after.
 pub trait CarryOut<O> {
     type Answer: fmt::Display + Drop;
+
     type Failure: fmt::Display + Drop;
 
     // None where the line is left.
@@ -27,19 +28,17 @@ pub fn carry_out_all<'l, 'a, R: Print, O: Copy, C: CarryOut<O>>(
     to: &mut C,
     lines: &'l [Line<'a, O>],
 ) -> anyhow::Result<&'l [Line<'a, O>]> {
-    let mut rest = lines;
-    while let Some((line, after)) = rest.split_first() {
+    for (index, line) in lines.iter().enumerate() {
         let result = match line.command {
             Ok(command) => match to.carry_out(command) {
                 Some(result) => result,
-                None => break,
+                None => return Ok(&lines[index..]),
             },
             Err(expected) => Err(Trouble::Unreadable(expected)),
         };
         tell(rt, line, result)?;
-        rest = after;
     }
-    Ok(rest)
+    Ok(&[])
 }
 
 // What a program does with a house once it is described.

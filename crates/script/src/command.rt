@@ -3,6 +3,7 @@ use crate::draft_lines::{DraftLine, read_draft_line};
 use crate::expected::Expected;
 use crate::question::{Question, read_question};
 use crate::words::{read_node, read_number, read_triple};
+use std::convert::Infallible;
 use std::str::SplitWhitespace;
 use triple::Triple;
 use values::{TermKind, Test};
@@ -39,6 +40,19 @@ pub trait OwnCommand<'a>: Copy {
 
     // Reads the words behind the name; None where the name is of no such command.
     fn read_own(name: &str, words: &mut SplitWhitespace<'a>) -> Result<Option<Self>, Expected>;
+}
+
+// A program with no command of its own.
+impl<'a> OwnCommand<'a> for Infallible {
+    const NAMES: &'static str =
+        "store, term, test, draft, set, triple, shape, label, accept, strata, put, take, fan, arc, arcs, total, literal, holds, typed, untyped, satisfies or satisfied";
+
+    fn read_own(
+        _name: &str,
+        _words: &mut SplitWhitespace<'a>,
+    ) -> Result<Option<Infallible>, Expected> {
+        Ok(None)
+    }
 }
 
 fn read_value(words: &mut SplitWhitespace) -> Result<i32, Expected> {

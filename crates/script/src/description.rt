@@ -65,6 +65,7 @@ impl Description {
 // Once there is a store, the first line that describes nothing ends the description.
 impl<O: Copy> CarryOut<O> for Description {
     type Answer = Answer;
+
     type Failure = Infallible;
 
     fn carry_out(&mut self, command: Command<O>) -> Option<Result<Answer, Trouble<Infallible>>> {

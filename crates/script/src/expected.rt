@@ -32,9 +32,7 @@ pub enum Expected {
     Set,
     #[error("a label from 0 to 255")]
     Label,
-    #[error(
-        "a triple row: empty, arc SET LABEL, each ROW ROW, some ROW ROW or times ROW LEAST MOST"
-    )]
+    #[error("a triple row: empty, arc SET LABEL, each ROW ROW, some ROW ROW or times ROW LEAST MOST")]
     TripleRow,
     #[error("a shape row: value TEST, hood ROW, and ROW ROW, or ROW ROW or not ROW")]
     ShapeRow,

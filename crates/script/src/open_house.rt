@@ -53,6 +53,7 @@ impl<S: Store, V: ValueTest> OpenHouse<'_, S, V> {
 // A program with no command of its own leaves no line.
 impl<S: Store, V: ValueTest> CarryOut<Infallible> for OpenHouse<'_, S, V> {
     type Answer = Answer;
+
     type Failure = Infallible;
 
     fn carry_out(

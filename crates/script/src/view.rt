@@ -91,11 +91,7 @@ impl<S: Store, V: ValueTest> View<'_, S, V> {
 }
 
 // The pairs of the node with the labels whose place says yes.
-fn push_pairs(
-    pairs: &mut Vec<(u16, u8)>,
-    node: u16,
-    found: &[bool; 32],
-) -> Result<(), AllocError> {
+fn push_pairs(pairs: &mut Vec<(u16, u8)>, node: u16, found: &[bool; 32]) -> Result<(), AllocError> {
     for (label, _) in (0..32).zip(found).filter(|(_, yes)| **yes) {
         pairs.push((node, label))?;
     }
