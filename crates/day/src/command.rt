@@ -1,42 +1,49 @@
 // The commands that only a day has.
 use crate::call_lines::{CallLine, read_call};
-use crate::expected::FILE;
-use script::{Expected, OwnCommand};
+use script::{Command, Expected, OwnCommand};
 use std::str::SplitWhitespace;
+
+pub type Line<'a> = script::Line<'a, DayCommand<'a>>;
 
 #[derive(Clone, Copy)]
 pub enum DayCommand<'a> {
     House,
     Call(CallLine),
     Load(&'a str),
+    Page(PageQuestion<'a>),
+}
+
+// What changes neither the store nor a verdict; a page is saved to a file, or to none.
+#[derive(Clone, Copy)]
+pub enum PageQuestion<'a> {
     Save(Option<&'a str>),
     List(&'a str),
 }
 
-impl DayCommand<'_> {
-    pub fn needs_validator(&self) -> bool {
-        matches!(self, DayCommand::Call(_) | DayCommand::Load(_))
-    }
-}
-
 fn read_file<'a>(words: &mut SplitWhitespace<'a>) -> Result<&'a str, Expected> {
-    words.next().ok_or(FILE)
+    words.next().ok_or(Expected::File)
 }
 
 impl<'a> OwnCommand<'a> for DayCommand<'a> {
-    const NAMES: &'static str =
-        "store, term, test, draft, set, triple, shape, label, accept, strata, put, take, fan, arc, arcs, total, literal, holds, typed, untyped, satisfies, satisfied, add, withdraw, look, held, sweep, load, save, list or house";
+    fn read_own(name: &str, words: &mut SplitWhitespace<'a>) -> Result<DayCommand<'a>, Expected> {
+        match name {
+            "house" => Ok(DayCommand::House),
+            "load" => Ok(DayCommand::Load(read_file(words)?)),
+            "save" => Ok(DayCommand::Page(PageQuestion::Save(words.next()))),
+            "list" => Ok(DayCommand::Page(PageQuestion::List(read_file(words)?))),
+            _ => Ok(DayCommand::Call(read_call(name, words)?)),
+        }
+    }
+}
 
-    fn read_own(
-        name: &str,
-        words: &mut SplitWhitespace<'a>,
-    ) -> Result<Option<DayCommand<'a>>, Expected> {
-        Ok(match name {
-            "house" => Some(DayCommand::House),
-            "load" => Some(DayCommand::Load(read_file(words)?)),
-            "save" => Some(DayCommand::Save(words.next())),
-            "list" => Some(DayCommand::List(read_file(words)?)),
-            _ => read_call(name, words)?.map(DayCommand::Call),
-        })
+pub fn is_house(line: &Line) -> bool {
+    matches!(line.command, Ok(Command::Own(DayCommand::House)))
+}
+
+// The call on the validator that the line is, if it is one.
+pub fn call_on(line: &Line) -> Option<CallLine> {
+    match line.command {
+        Ok(Command::Own(DayCommand::Call(call))) => Some(call),
+        _ => None,
     }
 }

@@ -35,23 +35,14 @@ pub enum Edit {
 
 // The commands that only one program has.
 pub trait OwnCommand<'a>: Copy {
-    // The names of all commands of the program, those of every program among them.
-    const NAMES: &'static str;
-
-    // Reads the words behind the name; None where the name is of no such command.
-    fn read_own(name: &str, words: &mut SplitWhitespace<'a>) -> Result<Option<Self>, Expected>;
+    // Reads the words behind the name, which is of no command that every program has.
+    fn read_own(name: &str, words: &mut SplitWhitespace<'a>) -> Result<Self, Expected>;
 }
 
 // A program with no command of its own.
 impl<'a> OwnCommand<'a> for Infallible {
-    const NAMES: &'static str =
-        "store, term, test, draft, set, triple, shape, label, accept, strata, put, take, fan, arc, arcs, total, literal, holds, typed, untyped, satisfies or satisfied";
-
-    fn read_own(
-        _name: &str,
-        _words: &mut SplitWhitespace<'a>,
-    ) -> Result<Option<Infallible>, Expected> {
-        Ok(None)
+    fn read_own(_name: &str, _words: &mut SplitWhitespace<'a>) -> Result<Infallible, Expected> {
+        Err(Expected::Command)
     }
 }
 
@@ -110,10 +101,7 @@ fn read_named<'a, O: OwnCommand<'a>>(
     if let Some(question) = read_question(name, words)? {
         return Ok(Command::Question(question));
     }
-    match O::read_own(name, words)? {
-        Some(own) => Ok(Command::Own(own)),
-        None => Err(Expected::Command(O::NAMES)),
-    }
+    Ok(Command::Own(O::read_own(name, words)?))
 }
 
 // What the line asks for; nothing where it is blank. The line is without its comment.

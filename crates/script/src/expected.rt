@@ -3,9 +3,8 @@ use thiserror::Error;
 
 #[derive(Clone, Copy, Debug, Error)]
 pub enum Expected {
-    // With the names of the commands that the program knows.
-    #[error("a command: {0}")]
-    Command(&'static str),
+    #[error("a command: store, term, test, draft, set, triple, shape, label, accept, strata, put, take, fan, arc, arcs, total, literal, holds, typed, untyped, satisfies or satisfied")]
+    Command,
     #[error("a kind of store: chain NODES or rows NODES ROWS")]
     StoreKind,
     #[error("a node from 0 to 65535")]
@@ -48,7 +47,15 @@ pub enum Expected {
     OneStore,
     #[error("a call, since the house is described before the first call")]
     Call,
-    // What only the commands of one program ask for, in words.
-    #[error("{0}")]
-    Own(&'static str),
+    // What only the script of a day asks for.
+    #[error("a command: store, term, test, draft, set, triple, shape, label, accept, strata, put, take, fan, arc, arcs, total, literal, holds, typed, untyped, satisfies, satisfied, add, withdraw, look, held, sweep, load, save, list or house")]
+    DayCommand,
+    #[error("add or withdraw, since the validator has the store")]
+    ValidatorEdit,
+    #[error("own, or strata from 0 to 255")]
+    Strata,
+    #[error("a number of bytes from 0 to 65535")]
+    Room,
+    #[error("the name of a file")]
+    File,
 }

@@ -18,32 +18,30 @@ pub struct OpenHouse<'a, S: Store, V: ValueTest> {
 }
 
 impl<S: Store, V: ValueTest> OpenHouse<'_, S, V> {
-    pub fn view(&self) -> View<'_, S, V> {
-        View {
-            schema: self.session.drafting.schema(),
-            store: &*self.store,
-            values: self.values,
-        }
-    }
-
-    // Carries out a command that every program has.
     pub fn perform<O: Drop, F>(&mut self, command: Command<O>) -> Result<Answer, Trouble<F>> {
-        let Session {
-            heap,
-            drafting,
-            typing,
-        } = &mut *self.session;
+        self.session.perform(self.store, self.values, command)
+    }
+}
+
+impl Session {
+    // Carries out a command that every program has.
+    fn perform<S: Store, V: ValueTest, O: Drop, F>(
+        &mut self,
+        store: &mut S,
+        values: &V,
+        command: Command<O>,
+    ) -> Result<Answer, Trouble<F>> {
         Ok(match command {
-            Command::Draft(line) => drafting.perform(line)?,
-            Command::Edit(Edit::Put(triple)) => Answer::Edit(self.store.put(triple)),
-            Command::Edit(Edit::Take(triple)) => Answer::Edit(self.store.take(triple)),
+            Command::Draft(line) => self.drafting.perform(line)?,
+            Command::Edit(Edit::Put(triple)) => Answer::Edit(store.put(triple)),
+            Command::Edit(Edit::Take(triple)) => Answer::Edit(store.take(triple)),
             Command::Question(question) => {
                 let view = View {
-                    schema: drafting.schema(),
-                    store: &*self.store,
-                    values: self.values,
+                    schema: self.drafting.schema(),
+                    store,
+                    values,
                 };
-                view.answer(*heap, typing, question)?
+                view.answer(self.heap, &mut self.typing, question)?
             }
             _ => return Err(Trouble::Unreadable(Expected::Call)),
         })
