@@ -1,4 +1,6 @@
 // The house that a script describes before its first call.
+ghost use Rattle.std.specs.Prelude.{◌≡◌, ◌×◌, [], IsNone};
+
 use crate::answer::Answer;
 use crate::carrying::CarryOut;
 use crate::command::{Command, StoreKind};
@@ -28,7 +30,9 @@ pub struct Session {
 }
 
 impl Description {
-    pub fn new(heap: Global) -> Description {
+    pub fn new(heap: Global) -> Description
+        ensures { (result.terms.items ≡ []) × (result.tests.items ≡ []) × IsNone result.store }
+    {
         Description {
             terms: Vec::new(heap),
             tests: Vec::new(heap),

@@ -31,8 +31,12 @@ pub fn read_lines<'a, O: OwnCommand<'a>>(
     heap: Global,
     text: &'a str,
 ) -> Result<Vec<Line<'a, O>>, AllocError> {
-    text.lines()
-        .enumerate()
-        .filter_map(|(index, line)| read_line(index, line))
-        .collect(heap)
+    // A loop: a closure is not proved that calls by a bound with a lifetime.
+    let mut lines = Vec::new(heap);
+    for (index, line) in text.lines().enumerate() {
+        if let Some(line) = read_line(index, line) {
+            lines.push(line)?;
+        }
+    }
+    Ok(lines)
 }

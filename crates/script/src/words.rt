@@ -1,4 +1,6 @@
 // The arguments of a command, word by word.
+ghost use Rattle.std.specs.Prelude.{◌≡◌, IfErr};
+
 use crate::expected::Expected;
 use std::str::{FromStr, SplitWhitespace};
 use triple::Triple;
@@ -10,12 +12,15 @@ pub fn read_number<N: FromStr>(
 ) -> Result<N, Expected>
 where
     N::Err: Drop,
+    ensures { IfErr result (λ e. e ≡ expected) }
 {
     let word = words.next().ok_or(expected)?;
     word.parse::<N>().map_err(|_| expected)
 }
 
-pub fn read_node(words: &mut SplitWhitespace) -> Result<u16, Expected> {
+pub fn read_node(words: &mut SplitWhitespace) -> Result<u16, Expected>
+    ensures { IfErr result (λ e. e ≡ Expected.Node) }
+{
     read_number(words, Expected::Node)
 }
 
