@@ -1,5 +1,5 @@
 // The house that a script describes before its first call.
-ghost use Rattle.std.specs.Prelude.{◌≡◌, ◌×◌, [], IsNone};
+ghost use Rattle.std.specs.Prelude.{◌≡◌, [], IsNone};
 
 use crate::answer::Answer;
 use crate::carrying::CarryOut;
