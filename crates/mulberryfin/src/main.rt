@@ -2,12 +2,12 @@
 #![tactic(auto)]
 
 use script::{
-    Description, Line, OpenHouse, OverStore, carry_out_all, list, read_lines, read_script,
+    Description, Line, OpenHouse, OverStore, Session, carry_out_all, list, read_lines, read_script,
     run_house,
 };
 use std::convert::Infallible;
 use triple::Store;
-use values::TermTable;
+use values::{TermTable, ValueTest};
 
 // What is done over a store: the calls, and at the end the store is listed.
 #[derive(Drop)]
@@ -24,14 +24,25 @@ impl OverStore<Infallible> for Calls<'_> {
     ) -> anyhow::Result<()> {
         let mut store = store;
         let values = TermTable::new(house.terms.as_slice(), house.tests.as_slice());
-        let mut open = OpenHouse {
-            store: &mut store,
-            values: &values,
-            session: &mut house.session,
-        };
-        carry_out_all(self.rt, &mut open, lines)?;
+        run_calls(self.rt, &mut store, &values, &mut house.session, lines)?;
         list(self.rt, &store)
     }
+}
+
+fn run_calls<S: Store, V: ValueTest>(
+    rt: &HostRuntime,
+    store: &mut S,
+    values: &V,
+    session: &mut Session,
+    lines: &[Line<Infallible>],
+) -> anyhow::Result<()> {
+    let mut open = OpenHouse {
+        store,
+        values,
+        session,
+    };
+    carry_out_all(rt, &mut open, lines)?;
+    Ok(())
 }
 
 fn read_and_run(rt: &HostRuntime) -> anyhow::Result<()> {
