@@ -5,7 +5,10 @@ use crate::command::{DayCommand, Line, call_on};
 use crate::failure::{FileFailure, Trouble};
 use crate::pages::{PageAnswer, answer_page, load_file};
 use crate::tally::{Tally, count_held};
-use script::{CarryOut, Command, Expected, Session, View, carry_out_all, list, tell};
+use script::{
+    Answer, CarryOut, Command, Expected, Question, Session, Typing, View, carry_out_all, list, tell,
+};
+use std::alloc::{AllocError, Global};
 use triple::Store;
 use validate::Validate;
 use validator::Validator;
@@ -21,7 +24,7 @@ struct Day<'a, S: Store + Drop, V: ValueTest + Drop> {
 
 impl<S: Store + Drop, V: ValueTest + Drop> Day<'_, S, V> {
     // Makes the calls of one list.
-    fn call(&mut self, lines: &[Line]) -> anyhow::Result<()> {
+    fn run_list(&mut self, lines: &[Line]) -> anyhow::Result<()> {
         let nodes = self.validator.store().node_count();
         let before = count_held(&self.validator);
         let mut batch = Batch::new(self.rt.alloc(), lines, self.validator.schema(), nodes)?;
@@ -58,15 +61,12 @@ impl<S: Store + Drop, V: ValueTest + Drop> Day<'_, S, V> {
     fn perform(&mut self, command: Command<DayCommand>) -> Result<DayAnswer, Trouble> {
         Ok(match command {
             Command::Draft(line) => DayAnswer::Common(self.session.drafting.perform(line)?),
-            Command::Question(question) => {
-                let view = View {
-                    schema: self.validator.schema(),
-                    store: self.validator.store(),
-                    values: self.validator.values(),
-                };
-                let typing = &mut self.session.typing;
-                DayAnswer::Common(view.answer(self.rt.alloc(), typing, question)?)
-            }
+            Command::Question(question) => DayAnswer::Common(ask(
+                self.rt.alloc(),
+                &self.validator,
+                &mut self.session.typing,
+                question,
+            )?),
             Command::Own(DayCommand::Page(question)) => {
                 DayAnswer::Page(answer_page(self.rt, self.validator.store(), question)?)
             }
@@ -84,6 +84,21 @@ impl<S: Store + Drop, V: ValueTest + Drop> Day<'_, S, V> {
         println!(rt; "calls: {tally}; {held} verdicts held, {dropped} dropped")?;
         list(rt, self.validator.store())
     }
+}
+
+// Asks the validator's store, under its schema.
+fn ask<S: Store + Drop, V: ValueTest + Drop>(
+    heap: Global,
+    validator: &Validator<S, V>,
+    typing: &mut Typing,
+    question: Question,
+) -> Result<Answer, AllocError> {
+    let view = View {
+        schema: validator.schema(),
+        store: validator.store(),
+        values: validator.values(),
+    };
+    view.answer(heap, typing, question)
 }
 
 // A call is left: it is made in a list.
@@ -127,7 +142,7 @@ pub fn run_day<S: Store + Drop, V: ValueTest + Drop>(
     for list in lists {
         let calls = carry_out_all(rt, &mut day, list)?;
         if !calls.is_empty() {
-            day.call(calls)?;
+            day.run_list(calls)?;
         }
     }
     day.summarize()

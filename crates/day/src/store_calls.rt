@@ -1,10 +1,10 @@
 // The lines of a house between its description and its day.
 use crate::answer::DayAnswer;
-use crate::command::DayCommand;
+use crate::command::{DayCommand, Line};
 use crate::day::run_day;
 use crate::failure::{FileFailure, Trouble};
 use crate::pages::answer_page;
-use script::{CarryOut, Command, Description, Line, OpenHouse, OverStore, carry_out_all, list};
+use script::{CarryOut, Command, Description, OpenHouse, OverStore, Session, carry_out_all, list};
 use triple::Store;
 use values::{TermTable, ValueTest};
 
@@ -34,6 +34,22 @@ impl<'a, S: Store, V: ValueTest> CarryOut<DayCommand<'a>> for StoreCalls<'_, S, 
     }
 }
 
+// Answers the lines from the first call on the validator on.
+fn run_store<'l, 'a, S: Store, V: ValueTest>(
+    rt: &HostRuntime,
+    store: &mut S,
+    values: &V,
+    session: &mut Session,
+    lines: &'l [Line<'a>],
+) -> anyhow::Result<&'l [Line<'a>]> {
+    let open = OpenHouse {
+        store,
+        values,
+        session,
+    };
+    carry_out_all(rt, &mut StoreCalls { rt, open }, lines)
+}
+
 // What a day does over a store: the calls on it, and then those on a validator, if there are any.
 #[derive(Drop)]
 pub struct Houses<'r> {
@@ -45,19 +61,11 @@ impl<'a> OverStore<DayCommand<'a>> for Houses<'_> {
         &self,
         store: S,
         house: &mut Description,
-        lines: &[Line<DayCommand<'a>>],
+        lines: &[script::Line<DayCommand<'a>>],
     ) -> anyhow::Result<()> {
         let mut store = store;
         let values = TermTable::new(house.terms.as_slice(), house.tests.as_slice());
-        let mut calls = StoreCalls {
-            rt: self.rt,
-            open: OpenHouse {
-                store: &mut store,
-                values: &values,
-                session: &mut house.session,
-            },
-        };
-        let rest = carry_out_all(self.rt, &mut calls, lines)?;
+        let rest = run_store(self.rt, &mut store, &values, &mut house.session, lines)?;
         if rest.is_empty() {
             list(self.rt, &store)
         } else {
