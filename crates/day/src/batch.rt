@@ -48,11 +48,15 @@ fn sweep_of(line: SweepLine, schema: &Schema, nodes: u16) -> Sweep {
         .room
         .unwrap_or(u16::try_from(pairs).unwrap_or(u16::MAX));
     match line.strata {
-        Some(proposal) => Sweep {
-            strata: proposal.strata,
-            given: proposal.given,
-            room,
-        },
+        Some(proposal) => {
+            let strata = proposal.strata;
+            let given = proposal.given;
+            Sweep {
+                strata,
+                given,
+                room,
+            }
+        }
         None => {
             let mut strata = [0; 33];
             let _ = schema.strata(&mut strata);

@@ -3,7 +3,7 @@ use crate::call_lines::{CallLine, read_call};
 use script::{Command, Expected, OwnCommand};
 use std::str::SplitWhitespace;
 
-pub type Line<'a> = script::Line<'a, DayCommand<'a>>;
+pub type Line<'t, 'a> = script::Line<'t, DayCommand<'a>>;
 
 #[derive(Clone, Copy)]
 pub enum DayCommand<'a> {

@@ -27,7 +27,7 @@ impl<'a, S: Store, V: ValueTest> CarryOut<DayCommand<'a>> for StoreCalls<'_, S, 
         match command {
             Command::Own(DayCommand::Call(_) | DayCommand::Load(_)) => None,
             Command::Own(DayCommand::Page(question)) => {
-                Some(answer_page(self.rt, &*self.open.store, question).map(DayAnswer::Page))
+                Some(answer_page(self.rt, self.open.store(), question).map(DayAnswer::Page))
             }
             _ => Some(self.open.perform(command).map(DayAnswer::Common)),
         }
@@ -35,13 +35,13 @@ impl<'a, S: Store, V: ValueTest> CarryOut<DayCommand<'a>> for StoreCalls<'_, S, 
 }
 
 // Answers the lines from the first call on the validator on.
-fn run_store<'l, 'a, S: Store, V: ValueTest>(
-    rt: &HostRuntime,
-    store: &mut S,
-    values: &V,
-    session: &mut Session,
-    lines: &'l [Line<'a>],
-) -> anyhow::Result<&'l [Line<'a>]> {
+fn run_store<'s, 'l, 't, 'a, S: Store, V: ValueTest>(
+    rt: &'s HostRuntime,
+    store: &'s mut S,
+    values: &'s V,
+    session: &'s mut Session,
+    lines: &'l [Line<'t, 'a>],
+) -> anyhow::Result<&'l [Line<'t, 'a>]> {
     let open = OpenHouse {
         store,
         values,
@@ -61,7 +61,7 @@ impl<'a> OverStore<DayCommand<'a>> for Houses<'_> {
         &self,
         store: S,
         house: &mut Description,
-        lines: &[script::Line<DayCommand<'a>>],
+        lines: &[Line<'_, 'a>],
     ) -> anyhow::Result<()> {
         let mut store = store;
         let values = TermTable::new(house.terms.as_slice(), house.tests.as_slice());

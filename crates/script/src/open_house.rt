@@ -1,4 +1,6 @@
 // A house whose store the script may still change.
+ghost use Rattle.std.specs.Prelude.{◌≡◌};
+
 use crate::answer::Answer;
 use crate::carrying::CarryOut;
 use crate::command::{Command, Edit};
@@ -18,6 +20,12 @@ pub struct OpenHouse<'a, S: Store, V: ValueTest> {
 }
 
 impl<S: Store, V: ValueTest> OpenHouse<'_, S, V> {
+    pub fn store(&self) -> &S
+        ensures { result.now ≡ self.now.store.now }
+    {
+        &*self.store
+    }
+
     pub fn perform<O: Drop, F>(&mut self, command: Command<O>) -> Result<Answer, Trouble<F>> {
         self.session.perform(self.store, self.values, command)
     }
