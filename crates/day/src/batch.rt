@@ -1,23 +1,32 @@
 // Calls that stand next to each other in a script, as one list.
 use crate::call_answer::{CallAnswer, Refusal};
-use crate::call_lines::{CallLine, Strata, SweepLine};
-use crate::command::Command;
-use crate::lines::Line;
-use crate::tally::count_held;
-use replay::{Answer, Call, Short, Sweep, replay};
+use crate::call_lines::{CallLine, SweepLine};
+use crate::command::{Line, call_on};
+use replay::{Answer, Call, Sweep, replay};
+use runs::run;
 use schema::Schema;
 use std::alloc::{AllocError, Global};
+use triple::Store;
 use validate::Validate;
+use validator::Validator;
+use values::ValueTest;
 
-// The calls with a place for each answer, and the tables of the sweeps one after the other.
+// The calls with a place for each answer, and the tables of the sweeps one after the other: a run of a list takes
+// the three side by side.
 #[derive(Drop)]
 pub struct Batch {
     pub calls: Vec<Call>,
     pub answers: Vec<Answer>,
     pub tables: Vec<u8>,
-    pub nodes: u16,
-    pub labels: usize,
-    pub dropped: usize,
+}
+
+// Calls that stand next to each other are one list; an edit is a list of its own.
+pub fn are_one_list(line: &Line, next: &Line) -> bool {
+    is_listed(line) && is_listed(next)
+}
+
+fn is_listed(line: &Line) -> bool {
+    call_on(line).is_some_and(|call| !call.is_edit())
 }
 
 // What a call line means under a schema and over so many nodes.
@@ -34,12 +43,11 @@ fn call_of(line: CallLine, schema: &Schema, nodes: u16) -> Call {
 fn sweep_of(line: SweepLine, schema: &Schema, nodes: u16) -> Sweep {
     let labels = schema.label_count();
     let pairs = usize::from(nodes).saturating_mul(labels);
-    let room = match line.room {
-        Some(bytes) => bytes,
-        None => u16::try_from(pairs).unwrap_or(u16::MAX),
-    };
+    let room = line
+        .room
+        .unwrap_or(u16::try_from(pairs).unwrap_or(u16::MAX));
     match line.strata {
-        Strata::Proposed(proposal) => {
+        Some(proposal) => {
             let strata = proposal.strata;
             let given = proposal.given;
             Sweep {
@@ -48,7 +56,7 @@ fn sweep_of(line: SweepLine, schema: &Schema, nodes: u16) -> Sweep {
                 room,
             }
         }
-        Strata::Own => {
+        None => {
             let mut strata = [0; 33];
             let _ = schema.strata(&mut strata);
             let given = u8::try_from(labels).unwrap_or(u8::MAX);
@@ -62,100 +70,84 @@ fn sweep_of(line: SweepLine, schema: &Schema, nodes: u16) -> Sweep {
 }
 
 impl Batch {
-    pub fn len(&self) -> usize {
-        self.calls.len()
+    // The calls that the lines are.
+    pub fn new(
+        heap: Global,
+        lines: &[Line],
+        schema: &Schema,
+        nodes: u16,
+    ) -> Result<Batch, AllocError> {
+        let calls = lines.iter().filter_map(call_on);
+        let calls: Vec<Call> = calls
+            .map(|call| call_of(call, schema, nodes))
+            .collect(heap)?;
+        let rooms = calls.iter().map(|call| usize::from(call.room()));
+        let room = rooms.fold(0usize, |sum, room| sum.saturating_add(room));
+        Ok(Batch {
+            answers: vec![in heap; Answer::Accepted; calls.len()]?,
+            tables: vec![in heap; 0; room]?,
+            calls,
+        })
     }
 
-    fn push(&mut self, call: Call) -> Result<(), AllocError> {
-        self.calls.push(call)?;
-        self.answers.push(Answer::Accepted)?;
-        Ok(())
-    }
-
-    // Makes the calls, and counts the verdicts that they dropped.
-    pub fn run_on<A: Validate>(&mut self, validator: &mut A) -> Result<(), Short> {
-        let before = count_held(validator);
-        let ran = replay(
+    pub fn run_on<A: Validate>(&mut self, validator: &mut A) -> anyhow::Result<()> {
+        replay(
             validator,
             self.calls.as_slice(),
             self.answers.as_mut_slice(),
             self.tables.as_mut_slice(),
-        );
-        self.dropped = before.saturating_sub(count_held(validator));
-        ran
+        )?;
+        Ok(())
     }
 
-    // What is told of a call and its answer, if its table starts at `start`.
-    pub fn told(
-        &self,
-        heap: Global,
-        call: Call,
-        answer: Answer,
-        start: usize,
-    ) -> Result<CallAnswer, AllocError> {
-        Ok(match answer {
-            Answer::Accepted => CallAnswer::Edited(self.dropped),
-            Answer::Verdict(verdict) => CallAnswer::Verdict(verdict),
-            Answer::Held(verdict) => CallAnswer::Held(verdict),
-            Answer::Pairs(count) => CallAnswer::Swept(count, self.pairs_at(heap, start)?),
-            Answer::Refused(layer, number) => CallAnswer::Refused(Refusal {
+    // Makes the validator, and runs the list on it.
+    pub fn run_first<S: Store + Drop, V: ValueTest + Drop>(
+        &mut self,
+        schema: Schema,
+        store: S,
+        values: V,
+    ) -> anyhow::Result<Validator<S, V>> {
+        let (validator, ran) = run(
+            schema,
+            store,
+            values,
+            self.calls.as_slice(),
+            self.answers.as_mut_slice(),
+            self.tables.as_mut_slice(),
+        );
+        ran?;
+        Ok(validator)
+    }
+}
+
+// What is told of a call and its answer: an edit with the verdicts that it dropped, a sweep with the pairs of its table.
+pub fn told(
+    heap: Global,
+    call: Call,
+    answer: Answer,
+    table: &[u8],
+    labels: usize,
+    dropped: usize,
+) -> Result<Result<CallAnswer, Refusal>, AllocError> {
+    Ok(Ok(match answer {
+        Answer::Accepted => CallAnswer::Edited(dropped),
+        Answer::Verdict(verdict) => CallAnswer::Verdict(verdict),
+        Answer::Held(verdict) => CallAnswer::Held(verdict),
+        Answer::Pairs(count) => CallAnswer::Swept(count, pairs_of(heap, table, labels)?),
+        Answer::Refused(layer, number) => {
+            return Ok(Err(Refusal {
                 call,
                 layer,
                 number,
-            }),
-        })
-    }
-
-    // The pairs of the table that starts at `start`.
-    fn pairs_at(&self, heap: Global, start: usize) -> Result<Vec<(usize, usize)>, AllocError> {
-        let mut pairs = Vec::new(heap);
-        let labels = self.labels.max(1);
-        let size = usize::from(self.nodes).saturating_mul(self.labels);
-        for (place, byte) in self.tables.iter().skip(start).take(size).enumerate() {
-            if *byte == 1 {
-                pairs.push((place / labels, place % labels))?;
-            }
+            }));
         }
-        Ok(pairs)
-    }
+    }))
 }
 
-fn room_of_all(calls: &[Call]) -> usize {
-    let mut room = 0usize;
-    for call in calls {
-        room = room.saturating_add(usize::from(call.room()));
-    }
-    room
-}
-
-// The calls from the line `first` on, up to the next line of another sort. An edit stands alone.
-pub fn gather(
-    heap: Global,
-    lines: &[Line],
-    first: usize,
-    schema: &Schema,
-    nodes: u16,
-) -> Result<Batch, AllocError> {
-    let mut batch = Batch {
-        calls: Vec::new(heap),
-        answers: Vec::new(heap),
-        tables: Vec::new(heap),
-        nodes,
-        labels: schema.label_count(),
-        dropped: 0,
-    };
-    for line in lines.iter().skip(first) {
-        let Ok(Command::Call(call)) = line.command else {
-            break;
-        };
-        if call.is_edit() && batch.len() > 0 {
-            break;
-        }
-        batch.push(call_of(call, schema, nodes))?;
-        if call.is_edit() {
-            break;
-        }
-    }
-    batch.tables = vec![in heap; 0; room_of_all(batch.calls.as_slice())]?;
-    Ok(batch)
+// The pairs of a table, each a node and a label.
+fn pairs_of(heap: Global, table: &[u8], labels: usize) -> Result<Vec<(usize, usize)>, AllocError> {
+    let labels = labels.max(1);
+    let held = table.iter().enumerate().filter(|(_, byte)| **byte == 1);
+    held.map(|(place, _)| (place / labels, place % labels))
+        .collect(heap)
 }

@@ -1,6 +1,7 @@
 // What a call on the validator answers, and how it is printed.
 use refusal::Layer;
 use replay::Call;
+use script::Joined;
 use std::fmt;
 
 #[derive(Drop)]
@@ -9,7 +10,6 @@ pub enum CallAnswer {
     Verdict(bool),
     Held(Option<bool>),
     Swept(usize, Vec<(usize, usize)>),
-    Refused(Refusal),
 }
 
 // A call that was refused, with the layer and the number.
@@ -21,7 +21,8 @@ pub struct Refusal {
 }
 
 impl Refusal {
-    // 7 is told of a subject by the edits, and of a node by the questions.
+    // A list of calls answers a refusal by its number. 7 is told of a subject by the edits, and of a node by the
+    // questions.
     fn sentence(&self) -> &'static str {
         match self.number {
             7 if matches!(self.call, Call::Look(_, _) | Call::Held(_, _)) =>
@@ -42,37 +43,30 @@ impl Refusal {
     }
 }
 
+impl fmt::Display for Refusal {
+    fn fmt<W: fmt::Write>(&self, f: &mut fmt::Formatter<W>) -> fmt::Result {
+        let number = self.number;
+        let layer = self.layer;
+        let sentence = self.sentence();
+        write!(f, "refused with {number} by the {layer}: {sentence}")
+    }
+}
+
 impl fmt::Display for CallAnswer {
     fn fmt<W: fmt::Write>(&self, f: &mut fmt::Formatter<W>) -> fmt::Result {
         match self {
             CallAnswer::Edited(dropped) => write!(f, "accepted, {dropped} verdicts dropped"),
-            CallAnswer::Verdict(true) => write!(f, "yes"),
-            CallAnswer::Verdict(false) => write!(f, "no"),
-            CallAnswer::Held(Some(true)) => write!(f, "yes"),
-            CallAnswer::Held(Some(false)) => write!(f, "no"),
+            CallAnswer::Verdict(true) | CallAnswer::Held(Some(true)) => write!(f, "yes"),
+            CallAnswer::Verdict(false) | CallAnswer::Held(Some(false)) => write!(f, "no"),
             CallAnswer::Held(None) => write!(f, "not held"),
-            CallAnswer::Swept(count, pairs) => write_swept(f, *count, pairs.as_slice()),
-            CallAnswer::Refused(refusal) => {
-                let number = refusal.number;
-                let layer = refusal.layer;
-                let sentence = refusal.sentence();
-                write!(f, "refused with {number} by the {layer}: {sentence}")
+            CallAnswer::Swept(count, pairs) if pairs.is_empty() => write!(f, "{count} pairs"),
+            CallAnswer::Swept(count, pairs) => {
+                let pairs = Joined {
+                    items: pairs.as_slice(),
+                    none: "",
+                };
+                write!(f, "{count} pairs: {pairs}")
             }
         }
     }
-}
-
-fn write_swept<W: fmt::Write>(
-    f: &mut fmt::Formatter<W>,
-    count: usize,
-    pairs: &[(usize, usize)],
-) -> fmt::Result {
-    write!(f, "{count} pairs")?;
-    for (i, (node, label)) in pairs.iter().enumerate() {
-        if i == 0 {
-            write!(f, ":")?;
-        }
-        write!(f, " ({node}, {label})")?;
-    }
-    Ok(())
 }

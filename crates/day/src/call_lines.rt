@@ -1,6 +1,5 @@
 // The lines of a script that call the validator.
-use crate::command::{read_node, read_number, read_triple};
-use crate::expected::Expected;
+use script::{Expected, read_node, read_number, read_triple};
 use std::str::SplitWhitespace;
 use triple::Triple;
 
@@ -13,17 +12,12 @@ pub enum CallLine {
     Sweep(SweepLine),
 }
 
-// A sweep by strata, into a table of so many bytes; with no number the table is as long as it has to be.
+// A sweep by strata that are proposed, or by the schema's own; into a table of so many bytes, or one that is as
+// long as it has to be.
 #[derive(Clone, Copy)]
 pub struct SweepLine {
-    pub strata: Strata,
+    pub strata: Option<Proposal>,
     pub room: Option<u16>,
-}
-
-#[derive(Clone, Copy)]
-pub enum Strata {
-    Own,
-    Proposed(Proposal),
 }
 
 // The first `given` bytes are proposed.
@@ -42,58 +36,56 @@ impl CallLine {
 impl Proposal {
     // Takes one stratum more; past the 33rd they are read and left out.
     fn read(&mut self, word: &str) -> Result<(), Expected> {
-        let Ok(stratum) = word.parse::<u8>() else {
-            return Err(Expected::Strata);
-        };
-        let at = usize::from(self.given);
-        if at < self.strata.len() {
-            self.strata[at] = stratum;
+        let stratum = word.parse().map_err(|_| Expected::Strata)?;
+        if let Some(place) = self.strata.get_mut(usize::from(self.given)) {
+            *place = stratum;
             self.given = self.given.saturating_add(1);
         }
         Ok(())
     }
 }
 
+fn read_label(words: &mut SplitWhitespace) -> Result<u8, Expected> {
+    read_number(words, Expected::Label)
+}
+
 pub fn read_call(name: &str, words: &mut SplitWhitespace) -> Result<CallLine, Expected> {
     match name {
         "add" => Ok(CallLine::Add(read_triple(words)?)),
         "withdraw" => Ok(CallLine::Withdraw(read_triple(words)?)),
-        "look" => Ok(CallLine::Look(read_node(words)?, read_number(words, Expected::Label)?)),
-        "held" => Ok(CallLine::Held(read_node(words)?, read_number(words, Expected::Label)?)),
-        _ => Err(Expected::Command),
+        "look" => Ok(CallLine::Look(read_node(words)?, read_label(words)?)),
+        "held" => Ok(CallLine::Held(read_node(words)?, read_label(words)?)),
+        "sweep" => Ok(CallLine::Sweep(read_sweep(words)?)),
+        _ => Err(Expected::DayCommand),
     }
 }
 
 // All words up to the end of the line, of which the first is already read.
-fn read_strata(first: Option<&str>, words: SplitWhitespace) -> Result<Strata, Expected> {
-    let mut words = words;
+fn read_proposal<'a>(
+    first: Option<&'a str>,
+    words: &mut SplitWhitespace<'a>,
+) -> Result<Proposal, Expected> {
     let mut proposal = Proposal {
         strata: [0; 33],
         given: 0,
     };
-    match first {
-        Some("own") => match words.next() {
-            None => return Ok(Strata::Own),
-            Some(_) => return Err(Expected::End),
-        },
-        Some(word) => proposal.read(word)?,
-        None => {}
-    }
-    for word in words {
+    for word in first.into_iter().chain(words) {
         proposal.read(word)?;
     }
-    Ok(Strata::Proposed(proposal))
+    Ok(proposal)
 }
 
 // All words up to the end of the line: `own` or strata, and before them perhaps `room` with a number of bytes.
-pub fn read_sweep(words: SplitWhitespace) -> Result<SweepLine, Expected> {
-    let mut words = words;
+fn read_sweep(words: &mut SplitWhitespace) -> Result<SweepLine, Expected> {
     let mut first = words.next();
     let mut room = None;
-    if let Some("room") = first {
-        room = Some(read_number(&mut words, Expected::Room)?);
+    if first == Some("room") {
+        room = Some(read_number(words, Expected::Room)?);
         first = words.next();
     }
-    let strata = read_strata(first, words)?;
+    let strata = match first {
+        Some("own") => None,
+        _ => Some(read_proposal(first, words)?),
+    };
     Ok(SweepLine { strata, room })
 }

@@ -1,137 +1,149 @@
 // The day of a house: the lines from the first call on its validator on.
-use crate::answer::Answer;
-use crate::batch::{Batch, gather};
-use crate::call_answer::CallAnswer;
-use crate::command::Command;
-use crate::expected::Expected;
-use crate::lines::Line;
-use crate::pages::{PageAnswer, load_file};
-use crate::questions::{View, answer};
-use crate::session::Session;
+use crate::answer::DayAnswer;
+use crate::batch::{Batch, are_one_list, told};
+use crate::command::{DayCommand, Line, call_on};
+use crate::failure::{FileFailure, Trouble};
+use crate::pages::{PageAnswer, answer_page, load_file};
 use crate::tally::{Tally, count_held};
-use crate::telling::{list, tell};
-use crate::trouble::Trouble;
-use anyhow::anyhow;
-use runs::run;
+use script::{
+    Answer, CarryOut, Command, Expected, Question, Session, Typing, View, carry_out_all, list, tell,
+};
+use std::alloc::{AllocError, Global};
 use triple::Store;
 use validate::Validate;
 use validator::Validator;
 use values::ValueTest;
 
-// Prints the calls of a list with their answers, and counts them.
-fn tell_batch(
-    rt: &HostRuntime,
-    lines: &[Line],
-    first: usize,
-    batch: &Batch,
-    tally: &mut Tally,
-) -> anyhow::Result<()> {
-    let mut start = 0usize;
-    let calls = batch.calls.iter().zip(batch.answers.iter());
-    for (line, (call, answer)) in lines.iter().skip(first).zip(calls) {
-        let told = batch.told(rt.alloc(), *call, *answer, start)?;
-        tally.ask(matches!(told, CallAnswer::Refused(_)));
-        tell(rt, *line, Ok(Answer::Call(told)))?;
-        start = start.saturating_add(usize::from(call.room()));
+#[derive(Drop)]
+struct Day<'a, S: Store + Drop, V: ValueTest + Drop> {
+    rt: &'a HostRuntime,
+    validator: Validator<S, V>,
+    session: &'a mut Session,
+    tally: Tally,
+}
+
+impl<S: Store + Drop, V: ValueTest + Drop> Day<'_, S, V> {
+    // Makes the calls of one list.
+    fn run_list(&mut self, lines: &[Line]) -> anyhow::Result<()> {
+        let nodes = self.validator.store().node_count();
+        let before = count_held(&self.validator);
+        let mut batch = Batch::new(self.rt.alloc(), lines, self.validator.schema(), nodes)?;
+        batch.run_on(&mut self.validator)?;
+        self.tell(lines, &batch, before)
     }
-    tally.lose(batch.dropped);
-    Ok(())
-}
 
-fn load_page<A: Validate>(
-    rt: &HostRuntime,
-    validator: &mut A,
-    tally: &mut Tally,
-    path: &str,
-) -> Result<Answer, Trouble> {
-    let before = count_held(validator);
-    let answer = load_file(rt, validator, path)?;
-    tally.ask(matches!(answer, PageAnswer::Refused(_)));
-    tally.lose(before.saturating_sub(count_held(validator)));
-    Ok(Answer::Page(answer))
-}
-
-// Carries out a line that is no call of a list.
-fn carry_out<S: Store + Drop, V: ValueTest + Drop>(
-    rt: &HostRuntime,
-    validator: &mut Validator<S, V>,
-    session: &mut Session,
-    tally: &mut Tally,
-    line: &Line,
-) -> Result<Answer, Trouble> {
-    match line.command? {
-        Command::Draft(line) => session.drafting.perform(line),
-        Command::Load(path) => load_page(rt, validator, tally, path),
-        Command::Question(question) => {
-            let view = View {
-                schema: validator.schema(),
-                store: validator.store(),
-                values: validator.values(),
-            };
-            answer(rt, &view, &mut session.typing, question)
+    // Prints the calls of a list with their answers, and counts them.
+    fn tell(&mut self, lines: &[Line], batch: &Batch, before: usize) -> anyhow::Result<()> {
+        let labels = self.validator.schema().label_count();
+        let dropped = before.saturating_sub(count_held(&self.validator));
+        let mut tables = batch.tables.as_slice();
+        let calls = batch.calls.iter().zip(batch.answers.iter());
+        for (line, (call, answer)) in lines.iter().zip(calls) {
+            let (table, rest) = tables.split_at(usize::from(call.room()).min(tables.len()));
+            let told = told(self.rt.alloc(), *call, *answer, table, labels, dropped)?;
+            self.tally.ask(told.is_err());
+            tell(self.rt, line, Ok::<_, Trouble>(DayAnswer::Call(told)))?;
+            tables = rest;
         }
-        Command::Edit(_) => Err(Trouble::Unreadable(Expected::ValidatorEdit)),
-        _ => Err(Trouble::Unreadable(Expected::Call)),
+        self.tally.lose(dropped);
+        Ok(())
+    }
+
+    fn load(&mut self, path: &str) -> Result<PageAnswer, Trouble> {
+        let before = count_held(&self.validator);
+        let result = load_file(self.rt, &mut self.validator, path)?;
+        self.tally.ask(result.is_err());
+        let after = count_held(&self.validator);
+        self.tally.lose(before.saturating_sub(after));
+        Ok(PageAnswer::Loaded(result))
+    }
+
+    fn perform(&mut self, command: Command<DayCommand>) -> Result<DayAnswer, Trouble> {
+        Ok(match command {
+            Command::Draft(line) => DayAnswer::Common(self.session.drafting.perform(line)?),
+            Command::Question(question) => DayAnswer::Common(ask(
+                self.rt.alloc(),
+                &self.validator,
+                &mut self.session.typing,
+                question,
+            )?),
+            Command::Own(DayCommand::Page(question)) => {
+                DayAnswer::Page(answer_page(self.rt, self.validator.store(), question)?)
+            }
+            Command::Own(DayCommand::Load(path)) => DayAnswer::Page(self.load(path)?),
+            Command::Edit(_) => return Err(Trouble::Unreadable(Expected::ValidatorEdit)),
+            _ => return Err(Trouble::Unreadable(Expected::Call)),
+        })
+    }
+
+    fn summarize(&self) -> anyhow::Result<()> {
+        let rt = self.rt;
+        let tally = self.tally;
+        let held = count_held(&self.validator);
+        let dropped = tally.dropped;
+        println!(rt; "calls: {tally}; {held} verdicts held, {dropped} dropped")?;
+        list(rt, self.validator.store())
     }
 }
 
-// Carries out the lines from `first` on.
-fn run_lines<S: Store + Drop, V: ValueTest + Drop>(
-    rt: &HostRuntime,
-    validator: &mut Validator<S, V>,
-    session: &mut Session,
-    tally: &mut Tally,
-    lines: &[Line],
-    first: usize,
-) -> anyhow::Result<()> {
-    let mut next = first;
-    for (index, line) in lines.iter().enumerate() {
-        if index < next {
-            continue;
-        }
-        let nodes = validator.store().node_count();
-        let mut batch = gather(rt.alloc(), lines, index, validator.schema(), nodes)?;
-        if batch.len() == 0 {
-            let result = carry_out(rt, validator, session, tally, line);
-            tell(rt, *line, result)?;
-        } else if batch.run_on(validator).is_ok() {
-            tell_batch(rt, lines, index, &batch, tally)?;
-            next = index.saturating_add(batch.len());
-        } else {
-            return Err(anyhow!("a list of calls did not fit its answers"));
-        }
-    }
-    Ok(())
+// Asks the validator's store, under its schema.
+fn ask<S: Store + Drop, V: ValueTest + Drop>(
+    heap: Global,
+    validator: &Validator<S, V>,
+    typing: &mut Typing,
+    question: Question,
+) -> Result<Answer, AllocError> {
+    let view = View {
+        schema: validator.schema(),
+        store: validator.store(),
+        values: validator.values(),
+    };
+    view.answer(heap, typing, question)
 }
 
-// Makes the validator by the calls from the line `first` on, and carries out the rest.
+// A call is left: it is made in a list.
+impl<'a, S: Store + Drop, V: ValueTest + Drop> CarryOut<DayCommand<'a>> for Day<'_, S, V> {
+    type Answer = DayAnswer;
+
+    type Failure = FileFailure;
+
+    fn carry_out(
+        &mut self,
+        command: Command<DayCommand<'a>>,
+    ) -> Option<Result<DayAnswer, Trouble>> {
+        match command {
+            Command::Own(DayCommand::Call(_)) => None,
+            _ => Some(self.perform(command)),
+        }
+    }
+}
+
+// Makes the validator by the first list of calls, and carries out the rest.
 pub fn run_day<S: Store + Drop, V: ValueTest + Drop>(
     rt: &HostRuntime,
     store: S,
     values: V,
     session: &mut Session,
     lines: &[Line],
-    first: usize,
 ) -> anyhow::Result<()> {
-    let nodes = store.node_count();
-    let mut batch = gather(rt.alloc(), lines, first, session.drafting.schema(), nodes)?;
-    let (mut validator, ran) = run(
-        session.drafting.take_schema(),
-        store,
-        values,
-        batch.calls.as_slice(),
-        batch.answers.as_mut_slice(),
-        batch.tables.as_mut_slice(),
-    );
-    if ran.is_err() {
-        return Err(anyhow!("a list of calls did not fit its answers"));
+    let mut lists = lines.chunk_by(are_one_list).peekable();
+    let first = lists
+        .next_if(|list| list.iter().any(|line| call_on(line).is_some()))
+        .unwrap_or(&[]);
+    let schema = session.drafting.take_schema();
+    let mut batch = Batch::new(rt.alloc(), first, &schema, store.node_count())?;
+    let mut day = Day {
+        rt,
+        validator: batch.run_first(schema, store, values)?,
+        session,
+        tally: Tally::default(),
+    };
+    day.tell(first, &batch, 0)?;
+    for list in lists {
+        let calls = carry_out_all(rt, &mut day, list)?;
+        if !calls.is_empty() {
+            day.run_list(calls)?;
+        }
     }
-    let mut tally = Tally::new();
-    tell_batch(rt, lines, first, &batch, &mut tally)?;
-    let next = first.saturating_add(batch.len());
-    run_lines(rt, &mut validator, session, &mut tally, lines, next)?;
-    let held = count_held(&validator);
-    let dropped = tally.dropped;
-    println!(rt; "calls: {tally}; {held} verdicts held, {dropped} dropped")?;
-    list(rt, validator.store())
+    day.summarize()
 }

@@ -1,12 +1,13 @@
 // A graph page in words.
+use script::Joined;
+use std::alloc::{AllocError, Global};
 use std::fmt;
 
-// The bytes of a page that is lawful for its own number of nodes.
+// The fan of each node, and the arcs of all nodes one after the other.
 #[derive(Drop)]
 pub struct Listing {
-    pub bytes: Vec<u8>,
-    pub nodes: u16,
-    pub total: usize,
+    fans: Vec<u8>,
+    arcs: Vec<(u8, u8)>,
 }
 
 // The number of nodes that a page opens with, low byte first; 0 where it is too short to have one.
@@ -18,44 +19,42 @@ pub fn count_of(page: &[u8]) -> u16 {
 }
 
 impl Listing {
-    fn byte(&self, at: usize) -> u8 {
-        self.bytes.get(at).copied().unwrap_or(0)
-    }
-
-    // Writes the arcs of a node whose first entry is `first`, in the page's order.
-    fn write_node<W: fmt::Write>(
-        &self,
-        f: &mut fmt::Formatter<W>,
-        first: usize,
-        fan: u8,
-    ) -> fmt::Result {
-        if fan == 0 {
-            return write!(f, " none");
-        }
-        let properties = usize::from(self.nodes)
-            .saturating_add(2)
-            .saturating_add(first);
-        let objects = properties.saturating_add(self.total);
-        for place in 0..usize::from(fan) {
-            let property = self.byte(properties.saturating_add(place));
-            let object = self.byte(objects.saturating_add(place));
-            write!(f, " ({property}, {object})")?;
-        }
-        Ok(())
+    // Of a page that is lawful for so many nodes, with so many triples: behind the fans stand all properties, and
+    // then all objects.
+    pub fn new(heap: Global, page: &[u8], nodes: u16, total: usize) -> Result<Listing, AllocError> {
+        let nodes = usize::from(nodes);
+        let fans = page.iter().copied().skip(2).take(nodes).collect(heap)?;
+        let properties = page
+            .iter()
+            .copied()
+            .skip(nodes.saturating_add(2))
+            .take(total);
+        let objects = page
+            .iter()
+            .copied()
+            .skip(nodes.saturating_add(2))
+            .skip(total);
+        Ok(Listing {
+            fans,
+            arcs: properties.zip(objects).collect(heap)?,
+        })
     }
 }
 
 impl fmt::Display for Listing {
     fn fmt<W: fmt::Write>(&self, f: &mut fmt::Formatter<W>) -> fmt::Result {
-        let nodes = self.nodes;
-        let total = self.total;
+        let nodes = self.fans.len();
+        let total = self.arcs.len();
         write!(f, "{nodes} nodes, {total} triples")?;
-        let mut first = 0usize;
-        for node in 0..nodes {
-            let fan = self.byte(usize::from(node).saturating_add(2));
-            write!(f, "\n  node {node}:")?;
-            self.write_node(f, first, fan)?;
-            first = first.saturating_add(usize::from(fan));
+        let mut left = self.arcs.as_slice();
+        for (node, fan) in self.fans.iter().enumerate() {
+            let (items, rest) = left.split_at(usize::from(*fan).min(left.len()));
+            let arcs = Joined {
+                items,
+                none: "none",
+            };
+            write!(f, "\n  node {node}: {arcs}")?;
+            left = rest;
         }
         Ok(())
     }

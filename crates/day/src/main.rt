@@ -7,36 +7,26 @@ mod call_answer;
 mod call_lines;
 mod command;
 mod day;
-mod description;
-mod draft_lines;
-mod drafting;
-mod expected;
-mod lines;
+mod failure;
 mod listing;
 mod pages;
-mod questions;
-mod script;
-mod session;
+mod store_calls;
 mod tally;
-mod telling;
-mod trouble;
 
-use script::run;
-use std::{env, fs, io};
-
-// The file that the first argument names, or standard input.
-fn read_script(rt: &HostRuntime) -> anyhow::Result<String> {
-    let mut args = env::args(rt)?;
-    let _program = args.next();
-    match args.next() {
-        Some(path) => Ok(fs::read_to_string(rt, path.as_str())?),
-        None => Ok(io::read_to_string(rt.alloc(), rt.stdin())?),
-    }
-}
+use command::is_house;
+use script::{read_lines, read_script, run_house};
+use store_calls::Houses;
 
 fn read_and_run(rt: &HostRuntime) -> anyhow::Result<()> {
     let text = read_script(rt)?;
-    run(rt, text.as_str())
+    let lines = read_lines(rt.alloc(), text.as_str())?;
+    for (number, house) in lines.as_slice().split(is_house).enumerate() {
+        if number > 0 {
+            println!(rt; "house: a new house")?;
+        }
+        run_house(rt, &Houses { rt }, house)?;
+    }
+    Ok(())
 }
 
 fn main(rt: HostRuntime) -> anyhow::Result<()> {

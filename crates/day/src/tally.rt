@@ -2,7 +2,7 @@
 use std::fmt;
 use validate::Validate;
 
-#[derive(Clone, Copy)]
+#[derive(Clone, Copy, Default)]
 pub struct Tally {
     pub asked: usize,
     pub refused: usize,
@@ -10,19 +10,9 @@ pub struct Tally {
 }
 
 impl Tally {
-    pub fn new() -> Tally {
-        Tally {
-            asked: 0,
-            refused: 0,
-            dropped: 0,
-        }
-    }
-
     pub fn ask(&mut self, refused: bool) {
         self.asked = self.asked.saturating_add(1);
-        if refused {
-            self.refused = self.refused.saturating_add(1);
-        }
+        self.refused = self.refused.saturating_add(usize::from(refused));
     }
 
     pub fn lose(&mut self, verdicts: usize) {
@@ -40,19 +30,11 @@ impl fmt::Display for Tally {
 
 // How many verdicts of one node are held; a schema has at most 32 labels.
 fn count_held_of<A: Validate>(validator: &A, node: u16) -> usize {
-    let mut count = 0usize;
-    for label in 0..32 {
-        if let Ok(Some(_)) = validator.held(node, label) {
-            count = count.saturating_add(1);
-        }
-    }
-    count
+    let held = |label: &u8| matches!(validator.held(node, *label), Ok(Some(_)));
+    (0..32u8).filter(held).count()
 }
 
 pub fn count_held<A: Validate>(validator: &A) -> usize {
-    let mut count = 0usize;
-    for node in 0..validator.node_count() {
-        count = count.saturating_add(count_held_of(validator, node));
-    }
-    count
+    let counts = (0..validator.node_count()).map(|node| count_held_of(validator, node));
+    counts.fold(0usize, |sum, count| sum.saturating_add(count))
 }

@@ -1,33 +1,54 @@
 // Runs a script over a house graph, and prints what each call answers.
 #![tactic(auto)]
 
-mod answer;
-mod calls;
-mod command;
-mod description;
-mod draft_lines;
-mod drafting;
-mod expected;
-mod script;
-mod session;
-mod trouble;
+use script::{
+    Description, Line, OpenHouse, OverStore, Session, carry_out_all, list, read_lines, read_script,
+    run_house,
+};
+use std::convert::Infallible;
+use triple::Store;
+use values::{TermTable, ValueTest};
 
-use script::run;
-use std::{env, fs, io};
+// What is done over a store: the calls, and at the end the store is listed.
+#[derive(Drop)]
+struct Calls<'r> {
+    rt: &'r HostRuntime,
+}
 
-// The file that the first argument names, or standard input.
-fn read_script(rt: &HostRuntime) -> anyhow::Result<String> {
-    let mut args = env::args(rt)?;
-    let _program = args.next();
-    match args.next() {
-        Some(path) => Ok(fs::read_to_string(rt, path.as_str())?),
-        None => Ok(io::read_to_string(rt.alloc(), rt.stdin())?),
+impl OverStore<Infallible> for Calls<'_> {
+    fn run_over<S: Store + Drop>(
+        &self,
+        store: S,
+        house: &mut Description,
+        lines: &[Line<Infallible>],
+    ) -> anyhow::Result<()> {
+        let mut store = store;
+        let values = TermTable::new(house.terms.as_slice(), house.tests.as_slice());
+        run_calls(self.rt, &mut store, &values, &mut house.session, lines)?;
+        list(self.rt, &store)
     }
+}
+
+fn run_calls<S: Store, V: ValueTest>(
+    rt: &HostRuntime,
+    store: &mut S,
+    values: &V,
+    session: &mut Session,
+    lines: &[Line<Infallible>],
+) -> anyhow::Result<()> {
+    let mut open = OpenHouse {
+        store,
+        values,
+        session,
+    };
+    carry_out_all(rt, &mut open, lines)?;
+    Ok(())
 }
 
 fn read_and_run(rt: &HostRuntime) -> anyhow::Result<()> {
     let text = read_script(rt)?;
-    run(rt, text.as_str())
+    let lines = read_lines(rt.alloc(), text.as_str())?;
+    run_house(rt, &Calls { rt }, lines.as_slice())
 }
 
 fn main(rt: HostRuntime) -> anyhow::Result<()> {

@@ -1,13 +1,17 @@
 // What is printed of a line, and of a store at the end.
 use crate::answer::Answer;
-use crate::lines::Line;
-use crate::questions::sorted_arcs;
+use crate::line::Line;
 use crate::trouble::Trouble;
-use std::alloc::AllocError;
+use crate::view::sorted_arcs;
+use std::fmt;
 use triple::Store;
 
 // Prints what a line answered, or why it was not carried out.
-pub fn tell(rt: &HostRuntime, line: Line, res: Result<Answer, Trouble>) -> anyhow::Result<()> {
+pub fn tell<R: Print, O, A: fmt::Display + Drop, F: fmt::Display + Drop>(
+    rt: &R,
+    line: &Line<O>,
+    res: Result<A, Trouble<F>>,
+) -> anyhow::Result<()> {
     let text = line.text;
     match res {
         Ok(answer) => println!(rt; "{text}: {answer}")?,
@@ -15,19 +19,14 @@ pub fn tell(rt: &HostRuntime, line: Line, res: Result<Answer, Trouble>) -> anyho
             let number = line.number;
             println!(rt; "line {number}: {text}: expected {expected}; nothing was done")?;
         }
-        Err(Trouble::FileNotRead) => {
-            println!(rt; "{text}: the file cannot be read; nothing was done")?;
-        }
-        Err(Trouble::FileNotWritten) => {
-            println!(rt; "{text}: the file cannot be written; nothing was done")?;
-        }
-        Err(Trouble::NoMemory) => return Err(AllocError.into()),
+        Err(Trouble::Failed(failure)) => println!(rt; "{text}: {failure}; nothing was done")?,
+        Err(Trouble::NoMemory(error)) => return Err(error.into()),
     }
     Ok(())
 }
 
 // The whole store, node by node.
-pub fn list<S: Store>(rt: &HostRuntime, store: &S) -> anyhow::Result<()> {
+pub fn list<R: Print + AllocGlobal, S: Store>(rt: &R, store: &S) -> anyhow::Result<()> {
     let nodes = store.node_count();
     let total = store.total();
     let capacity = store.capacity();

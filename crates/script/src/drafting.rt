@@ -1,13 +1,13 @@
 // The draft that a script builds, and the schema that was accepted last.
 use crate::answer::Answer;
 use crate::draft_lines::DraftLine;
-use crate::trouble::Trouble;
-use draft::{Draft, PropertySet, ShapeRow, TripleRow};
+use draft::{Draft, PropertySet, SchemaFault, ShapeRow, TripleRow};
 use schema::Schema;
-use std::alloc::Global;
+use std::alloc::{AllocError, Global};
 
 #[derive(Drop)]
 pub struct Drafting {
+    heap: Global,
     definitions: Vec<u8>,
     shapes: Vec<ShapeRow>,
     triples: Vec<TripleRow>,
@@ -15,9 +15,17 @@ pub struct Drafting {
     schema: Schema,
 }
 
+// Adds a row behind the others, and answers its number.
+pub(crate) fn add<T: Drop>(rows: &mut Vec<T>, row: T) -> Result<usize, AllocError> {
+    let number = rows.len();
+    rows.push(row)?;
+    Ok(number)
+}
+
 impl Drafting {
     pub fn new(heap: Global) -> Drafting {
         Drafting {
+            heap,
             definitions: Vec::new(heap),
             shapes: Vec::new(heap),
             triples: Vec::new(heap),
@@ -35,28 +43,16 @@ impl Drafting {
         std::mem::replace(&mut self.schema, Schema::new())
     }
 
-    pub fn perform(&mut self, line: DraftLine) -> Result<Answer, Trouble> {
-        match line {
-            DraftLine::New => Ok(self.clear()),
-            DraftLine::Set(set) => {
-                self.sets.push(set)?;
-                Ok(Answer::Set(self.sets.len()))
-            }
-            DraftLine::Triple(row) => {
-                self.triples.push(row)?;
-                Ok(Answer::TripleRow(self.triples.len()))
-            }
-            DraftLine::Shape(row) => {
-                self.shapes.push(row)?;
-                Ok(Answer::ShapeRow(self.shapes.len()))
-            }
-            DraftLine::Label(row) => {
-                self.definitions.push(row)?;
-                Ok(Answer::Label(self.definitions.len()))
-            }
-            DraftLine::Accept => Ok(self.accept()),
-            DraftLine::Strata => Ok(self.strata()),
-        }
+    pub fn perform(&mut self, line: DraftLine) -> Result<Answer, AllocError> {
+        Ok(match line {
+            DraftLine::New => self.clear(),
+            DraftLine::Set(set) => Answer::Set(add(&mut self.sets, set)?),
+            DraftLine::Triple(row) => Answer::TripleRow(add(&mut self.triples, row)?),
+            DraftLine::Shape(row) => Answer::ShapeRow(add(&mut self.shapes, row)?),
+            DraftLine::Label(row) => Answer::Label(add(&mut self.definitions, row)?),
+            DraftLine::Accept => self.accept(),
+            DraftLine::Strata => Answer::Strata(self.strata()?),
+        })
     }
 
     fn clear(&mut self) -> Answer {
@@ -74,17 +70,15 @@ impl Drafting {
             triples: self.triples.as_slice(),
             sets: self.sets.as_slice(),
         };
-        match self.schema.accept(&draft) {
-            Ok(()) => Answer::Schema(self.schema.label_count()),
-            Err(fault) => Answer::SchemaRefused(fault),
-        }
+        let result = self.schema.accept(&draft);
+        Answer::Schema(result.map(|()| self.schema.label_count()))
     }
 
-    fn strata(&self) -> Answer {
+    fn strata(&self) -> Result<Result<Vec<u8>, SchemaFault>, AllocError> {
         let mut bytes = [0; 32];
         match self.schema.strata(&mut bytes) {
-            Ok(labels) => Answer::Strata(bytes, labels),
-            Err(fault) => Answer::SchemaRefused(fault),
+            Ok(labels) => Ok(Ok(bytes.into_iter().take(labels).collect(self.heap)?)),
+            Err(fault) => Ok(Err(fault)),
         }
     }
 }

@@ -1,6 +1,6 @@
 // The lines of a script that build a draft, row by row.
-use crate::command::read_number;
 use crate::expected::Expected;
+use crate::words::read_number;
 use draft::{PropertySet, ShapeRow, TripleRow};
 use std::str::SplitWhitespace;
 
@@ -20,15 +20,10 @@ fn read_row(words: &mut SplitWhitespace) -> Result<u8, Expected> {
 }
 
 fn read_most(words: &mut SplitWhitespace) -> Result<Option<u8>, Expected> {
-    let Some(word) = words.next() else {
-        return Err(Expected::Most);
-    };
-    if word == "*" {
-        return Ok(None);
-    }
-    match word.parse::<u8>() {
-        Ok(most) => Ok(Some(most)),
-        Err(_) => Err(Expected::Most),
+    match words.next() {
+        Some("*") => Ok(None),
+        Some(word) => word.parse().map(Some).map_err(|_| Expected::Most),
+        None => Err(Expected::Most),
     }
 }
 
@@ -58,44 +53,45 @@ fn read_shape_row(words: &mut SplitWhitespace) -> Result<ShapeRow, Expected> {
     }
 }
 
-pub fn read_draft_line(name: &str, words: &mut SplitWhitespace) -> Result<DraftLine, Expected> {
-    match name {
-        "draft" => Ok(DraftLine::New),
-        "triple" => Ok(DraftLine::Triple(read_triple_row(words)?)),
-        "shape" => Ok(DraftLine::Shape(read_shape_row(words)?)),
-        "label" => Ok(DraftLine::Label(read_row(words)?)),
-        "accept" => Ok(DraftLine::Accept),
-        "strata" => Ok(DraftLine::Strata),
-        _ => Err(Expected::Command),
-    }
+// None where the name is of no such line.
+pub(crate) fn read_draft_line(
+    name: &str,
+    words: &mut SplitWhitespace,
+) -> Result<Option<DraftLine>, Expected> {
+    Ok(Some(match name {
+        "draft" => DraftLine::New,
+        "set" => DraftLine::Set(read_set(words)?),
+        "triple" => DraftLine::Triple(read_triple_row(words)?),
+        "shape" => DraftLine::Shape(read_shape_row(words)?),
+        "label" => DraftLine::Label(read_row(words)?),
+        "accept" => DraftLine::Accept,
+        "strata" => DraftLine::Strata,
+        _ => return Ok(None),
+    }))
 }
 
-// The words with the bit of the property set, or cleared.
-fn with_bit(words: [u64; 4], property: u8, set: bool) -> [u64; 4] {
-    let mut words = words;
-    let i = (property / 64) as usize;
-    let bit = 1 << (property % 64);
-    words[i] = if set { words[i] | bit } else { words[i] & !bit };
-    words
+// The bits of the properties that the words are, up to the end of the line.
+fn read_bits<'a>(
+    first: Option<&'a str>,
+    words: &mut SplitWhitespace<'a>,
+) -> Result<[u64; 4], Expected> {
+    let mut bits = [0; 4];
+    for word in first.into_iter().chain(words) {
+        let property = word.parse::<u8>().map_err(|_| Expected::Set)?;
+        bits[usize::from(property / 64)] |= 1 << (property % 64);
+    }
+    Ok(bits)
 }
 
 // All words up to the end of the line: properties, `any`, or `any but` properties.
-pub fn read_set(words: SplitWhitespace) -> Result<PropertySet, Expected> {
-    let mut any = false;
-    let mut bits = [0; 4];
-    for (i, word) in words.enumerate() {
-        if i == 0 && word == "any" {
-            any = true;
-            bits = [u64::MAX; 4];
-        } else if i != 1 || !any {
-            let Ok(property) = word.parse::<u8>() else {
-                return Err(Expected::Set);
-            };
-            let next = with_bit(bits, property, !any);
-            bits = next;
-        } else if word != "but" {
-            return Err(Expected::Set);
-        }
-    }
+fn read_set(words: &mut SplitWhitespace) -> Result<PropertySet, Expected> {
+    let bits = match words.next() {
+        Some("any") => match words.next() {
+            Some("but") => read_bits(None, words)?.map(|word| !word),
+            Some(_) => return Err(Expected::Set),
+            None => [u64::MAX; 4],
+        },
+        first => read_bits(first, words)?,
+    };
     Ok(PropertySet::from_words(bits))
 }
