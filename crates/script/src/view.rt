@@ -26,21 +26,17 @@ pub(crate) fn sorted_arcs<S: Store>(
     Ok(arcs)
 }
 
-impl<'a, S: Store, V: ValueTest> View<'a, S, V> {
-    fn checker(&self, scratch: &'a mut Scratch) -> Checker<'a, S, V> {
-        Checker {
-            tables: self.schema.tables(),
-            store: self.store,
-            values: self.values,
-            scratch,
-        }
-    }
-
+impl<S: Store, V: ValueTest> View<'_, S, V> {
     // Whether one node satisfies one definition under the typing.
     fn satisfies(&self, typing: &Typing, node: u16, label: u8) -> Result<bool, AllocError> {
         let table = typing.table(self.store.node_count(), self.schema.label_count())?;
         let mut scratch = Scratch::new();
-        let mut checker = self.checker(&mut scratch);
+        let mut checker = Checker {
+            tables: self.schema.tables(),
+            store: self.store,
+            values: self.values,
+            scratch: &mut scratch,
+        };
         Ok(checker.satisfies(table.as_slice(), node, label))
     }
 
@@ -49,7 +45,12 @@ impl<'a, S: Store, V: ValueTest> View<'a, S, V> {
         let nodes = self.store.node_count();
         let table = typing.table(nodes, self.schema.label_count())?;
         let mut scratch = Scratch::new();
-        let mut checker = self.checker(&mut scratch);
+        let mut checker = Checker {
+            tables: self.schema.tables(),
+            store: self.store,
+            values: self.values,
+            scratch: &mut scratch,
+        };
         let mut pairs = Vec::new(heap);
         for node in 0..nodes {
             let found = checker.satisfied(table.as_slice(), node);
