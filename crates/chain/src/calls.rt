@@ -42,7 +42,7 @@ impl ChainStore {
         let mut cell = chain.head;
         for _ in 0..chain.fan {
             let held = self.cells[usize::from(cell)];
-            if held.property == triple.property && held.object == triple.object {
+            if held.property == triple.property && u16::from(held.object) == triple.object {
                 return Some(cell);
             }
             cell = held.next;
@@ -86,7 +86,7 @@ impl Store for ChainStore {
             cell = self.cells[usize::from(cell)].next;
         }
         let held = self.cells[usize::from(cell)];
-        Some((held.property, held.object))
+        Some((held.property, u16::from(held.object)))
     }
 
     fn put(&mut self, triple: Triple) -> Result<(), StoreFault> {
@@ -104,7 +104,7 @@ impl Store for ChainStore {
         let chain = self.chain(triple.subject);
         self.cells[usize::from(cell)] = Cell {
             property: triple.property,
-            object: triple.object,
+            object: triple.object as u8,
             next: chain.head,
         };
         self.chains[subject] = Chain {

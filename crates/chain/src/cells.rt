@@ -1,10 +1,10 @@
 // Cells, each with one arc, and the chains that they are linked to.
 
-// An arc, and the number of the next cell of its chain.
+// An arc, whose object is one of at most 256 nodes, and the number of the next cell of its chain.
 #[derive(Clone, Copy, Default)]
 pub struct Cell {
     pub property: u8,
-    pub object: u16,
+    pub object: u8,
     pub next: u16,
 }
 

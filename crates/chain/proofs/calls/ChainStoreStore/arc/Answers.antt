@@ -62,4 +62,4 @@ pub returns : goal.returns
 returns c =
     let m = c.args.self.now in
     let here : c.args.place - c.loop.counter ≡ 0 = omega arith in
-    rw c.from-2.ensures (sym (nth_first m.cells _ c.loop.cell (last (goal.at.returns c).After-from-2)) ∙ (rw here at c.loop.invariant.1))
+    rw (c.from-3.ensures, c.from-2.ensures) (sym (nth_first m.cells _ c.loop.cell (last (goal.at.returns c).After-from-2)) ∙ (rw here at c.loop.invariant.1))

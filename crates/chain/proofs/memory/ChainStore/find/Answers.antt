@@ -6,7 +6,7 @@ use Rattle.chain.specs.declared.cells.Chain.{Chain}
 use Rattle.chain.specs.Links.{cell_at, chain_at, arc_at, chain, on, on_chain}
 use Rattle.chain.proofs.Chains.{on_first, on_rest, has_first, sub_more}
 use Rattle.chain.proofs.memory.ChainStore.find.Goals as goal
-use Rattle.chain.proofs.memory.ChainStore.find.Goals.{After-from, else-held-triple-via-then-held-triple+else-held-triple-2, else-held-triple-via-else-held-triple}
+use Rattle.chain.proofs.memory.ChainStore.find.Goals.{After-from, else-held-triple-via-then-held-triple+else-from-triple, else-held-triple-via-else-held-triple}
 
 pub loop-init : goal.loop-init
 loop-init c =
@@ -40,7 +40,7 @@ loop-preserved c =
     let kept : (f : ℕ) → on m.cells (k - 1) (cell_at m.cells c.loop.cell).next f ≡ true → on_chain m.chains m.cells s f ≡ true =
     λ f h. c.loop.invariant.0 f (on_rest m.cells k c.loop.cell f some h) in
     let other : same (arc_at m.cells c.from.result) p o ≡ false =
-    elim c.else-held-triple.branch [ else-held-triple-via-then-held-triple+else-held-triple-2 w ↦ and_right _ _ (ne_eqb _ _ w.if-held-triple-2.false) | else-held-triple-via-else-held-triple w ↦ and_left _ _ (ne_eqb _ _ w.if-held-triple.false) ] in
+    elim c.else-held-triple.branch [ else-held-triple-via-then-held-triple+else-from-triple w ↦ and_right _ _ (ne_eqb _ _ (λ e. w.if-from-triple.false (w.from-then-held-triple.ensures ∙ e))) | else-held-triple-via-else-held-triple w ↦ and_left _ _ (ne_eqb _ _ w.if-held-triple.false) ] in
     let differs : same (arc_at m.cells c.loop.cell) p o ≡ false = rw c.from.ensures at other in
     (simp (sub_more, c.from.ensures) kept, simp (sub_more, c.from.ensures) (has_first m.cells k c.loop.cell p o some differs ∙ c.loop.invariant.1))
 
