@@ -5,9 +5,7 @@ use crate::report::{Measured, print_measured};
 use crate::schemas;
 use crate::splits::satisfies_by_splits;
 use crate::timing::{Work, time_both};
-use anyhow::anyhow;
 use chain::ChainStore;
-use draft::SchemaFault;
 use node_check::{Checker, Scratch};
 use schema::Schema;
 use tables::LawfulTables;
@@ -85,7 +83,7 @@ fn properties(case: Case, fan: u16) -> [u8; 12] {
     }
 }
 
-fn schema(case: Case) -> Result<Schema, SchemaFault> {
+fn schema(case: Case) -> anyhow::Result<Schema> {
     match case {
         Case::CheckTypical => schemas::typical(),
         Case::CheckNested => schemas::nested(),
@@ -94,13 +92,9 @@ fn schema(case: Case) -> Result<Schema, SchemaFault> {
 }
 
 fn measure(rt: &HostRuntime, case: Case, fan: u16) -> anyhow::Result<Measured> {
-    let Ok(schema) = schema(case) else {
-        return Err(anyhow!("a draft is refused"));
-    };
+    let schema = schema(case)?;
     let mut store = ChainStore::new(NODES);
-    if put_alike(&mut store, 4, fan, properties(case, fan)).is_err() {
-        return Err(anyhow!("a triple is refused"));
-    }
+    put_alike(&mut store, 4, fan, properties(case, fan))?;
     let mut by_masks = ByMasks {
         schema: &schema,
         store: &store,

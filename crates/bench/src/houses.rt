@@ -1,9 +1,9 @@
 // The houses of the cases: their nodes, triples, terms and schemas.
 use crate::schemas;
+use anyhow::anyhow;
 use chain::ChainStore;
-use draft::SchemaFault;
 use schema::Schema;
-use triple::{Store, StoreFault, Triple};
+use triple::{Store, Triple};
 use values::{Term, TermKind, Test};
 
 pub const TESTS: [Test; 4] = [
@@ -34,16 +34,20 @@ pub enum House {
     Crowd,
 }
 
-fn put<S: Store>(store: &mut S, subject: u16, property: u8, object: u16) -> Result<(), StoreFault> {
-    store.put(Triple {
+fn put<S: Store>(store: &mut S, subject: u16, property: u8, object: u16) -> anyhow::Result<()> {
+    let triple = Triple {
         subject,
         property,
         object,
-    })
+    };
+    match store.put(triple) {
+        Ok(()) => Ok(()),
+        Err(_) => Err(anyhow!("a triple is refused")),
+    }
 }
 
 // A show has a feature, a screen, and all but the last on a screen have a next show there.
-fn put_shows<S: Store>(store: &mut S) -> Result<(), StoreFault> {
+fn put_shows<S: Store>(store: &mut S) -> anyhow::Result<()> {
     for show in 0..128u16 {
         put(store, show, 1, FEATURES + show % 24)?;
         put(store, show, 2, SCREENS + show % 8)?;
@@ -55,7 +59,7 @@ fn put_shows<S: Store>(store: &mut S) -> Result<(), StoreFault> {
 }
 
 // A feature has a running time, a title, and one or two keys.
-fn put_features<S: Store>(store: &mut S) -> Result<(), StoreFault> {
+fn put_features<S: Store>(store: &mut S) -> anyhow::Result<()> {
     for i in 0..24u16 {
         put(store, FEATURES + i, 4, NUMBERS + i)?;
         put(store, FEATURES + i, 5, TITLES + i)?;
@@ -68,7 +72,7 @@ fn put_features<S: Store>(store: &mut S) -> Result<(), StoreFault> {
 }
 
 // A screen has seats and a title; a key opens a feature, until an hour.
-fn put_screens_and_keys<S: Store>(store: &mut S) -> Result<(), StoreFault> {
+fn put_screens_and_keys<S: Store>(store: &mut S) -> anyhow::Result<()> {
     for i in 0..20u16 {
         if i < 8 {
             put(store, SCREENS + i, 7, NUMBERS + i)?;
@@ -81,7 +85,7 @@ fn put_screens_and_keys<S: Store>(store: &mut S) -> Result<(), StoreFault> {
 }
 
 // Each of the first nodes has an arc to the next, and in a ring the last has one to the first.
-fn put_line<S: Store>(store: &mut S, closed: bool) -> Result<(), StoreFault> {
+fn put_line<S: Store>(store: &mut S, closed: bool) -> anyhow::Result<()> {
     for node in 0..255u16 {
         put(store, node, 1, node + 1)?;
     }
@@ -97,10 +101,10 @@ pub fn put_alike<S: Store>(
     nodes: u16,
     fan: u16,
     properties: [u8; 12],
-) -> Result<(), StoreFault> {
+) -> anyhow::Result<()> {
     for node in 0..nodes {
-        for (place, property) in properties.iter().enumerate().take(usize::from(fan)) {
-            put(store, node, *property, nodes.saturating_add(place as u16))?;
+        for (object, property) in (nodes..u16::MAX).zip(properties).take(usize::from(fan)) {
+            put(store, node, property, object)?;
         }
     }
     Ok(())
@@ -126,7 +130,7 @@ impl House {
         }
     }
 
-    pub fn schema(self) -> Result<Schema, SchemaFault> {
+    pub fn schema(self) -> anyhow::Result<Schema> {
         match self {
             House::Day => schemas::house(),
             House::Line | House::Ring => schemas::line(),
@@ -134,7 +138,7 @@ impl House {
         }
     }
 
-    pub fn fill<S: Store>(self, store: &mut S) -> Result<(), StoreFault> {
+    pub fn fill<S: Store>(self, store: &mut S) -> anyhow::Result<()> {
         match self {
             House::Day => {
                 put_shows(store)?;
@@ -147,7 +151,7 @@ impl House {
         }
     }
 
-    pub fn chain_store(self) -> Result<ChainStore, StoreFault> {
+    pub fn chain_store(self) -> anyhow::Result<ChainStore> {
         let mut store = ChainStore::new(self.nodes());
         self.fill(&mut store)?;
         Ok(store)
@@ -159,8 +163,8 @@ impl House {
             kind: TermKind::Iri,
         }; 256];
         if matches!(self, House::Day) {
-            for node in 0..256u16 {
-                terms[usize::from(node)] = Term { kind: kind(node) };
+            for (node, term) in (0..256u16).zip(&mut terms) {
+                term.kind = kind(node);
             }
         }
         terms

@@ -28,15 +28,11 @@ fn time_whole(
     values: TermTable,
     complete: bool,
 ) -> anyhow::Result<(CallTime, bool)> {
-    let Ok(mut store) = house.chain_store() else {
-        return Err(anyhow!("a triple is refused"));
-    };
+    let mut store = house.chain_store()?;
     if !complete && store.take(RUNNING_TIME).is_err() {
         return Err(anyhow!("the running time is missing"));
     }
-    let Ok(schema) = house.schema() else {
-        return Err(anyhow!("a draft is refused"));
-    };
+    let schema = house.schema()?;
     let mut table = [0; TABLE];
     let (time, _) = time_sweep(rt, schema, store, values, &mut table)?;
     Ok((time, table[0] == 1))
@@ -65,28 +61,29 @@ fn time_look(
     }
 }
 
+// A look, refused or not, beside a sweep of the whole house.
+fn beside(look: (CallTime, Option<bool>), whole: (CallTime, bool)) -> Measured {
+    let (time, verdict) = look;
+    let (plain, expected) = whole;
+    Measured {
+        time,
+        plain,
+        yes: usize::from(expected),
+        same: verdict == Some(expected),
+    }
+}
+
 fn measure_edit(rt: &HostRuntime, with_edit: bool) -> anyhow::Result<Measured> {
     let terms = House::Day.terms();
     let values = TermTable::new(&terms, &TESTS);
-    let Ok(schema) = House::Day.schema() else {
-        return Err(anyhow!("a draft is refused"));
-    };
-    let Ok(store) = House::Day.chain_store() else {
-        return Err(anyhow!("a triple is refused"));
-    };
-    let mut validator = Validator::new(schema, store, values);
+    let mut validator = Validator::new(House::Day.schema()?, House::Day.chain_store()?, values);
     let _ = validator.look(0, 0);
     let mut best = Measured::NONE;
     for round in 0..2 * ROUNDS {
         let complete = round % 2 == 1;
-        let (plain, expected) = time_whole(rt, House::Day, values, complete)?;
-        let (time, verdict) = time_look(rt, &mut validator, complete, with_edit)?;
-        best = best.and(Measured {
-            time,
-            plain,
-            yes: usize::from(expected),
-            same: verdict == Some(expected),
-        });
+        let whole = time_whole(rt, House::Day, values, complete)?;
+        let look = time_look(rt, &mut validator, complete, with_edit)?;
+        best = best.and(beside(look, whole));
     }
     Ok(best)
 }
@@ -97,13 +94,7 @@ fn time_first_look(
     house: House,
     values: TermTable,
 ) -> anyhow::Result<(CallTime, Option<bool>)> {
-    let Ok(schema) = house.schema() else {
-        return Err(anyhow!("a draft is refused"));
-    };
-    let Ok(store) = house.chain_store() else {
-        return Err(anyhow!("a triple is refused"));
-    };
-    let mut validator = Validator::new(schema, store, values);
+    let mut validator = Validator::new(house.schema()?, house.chain_store()?, values);
     let start = Instant::now(rt)?;
     let verdict = validator.look(0, 0);
     let time = CallTime::of(start.elapsed(rt)?, 1);
@@ -115,14 +106,9 @@ fn measure_ring(rt: &HostRuntime) -> anyhow::Result<Measured> {
     let values = TermTable::new(&terms, &TESTS);
     let mut best = Measured::NONE;
     for _ in 0..ROUNDS {
-        let (plain, expected) = time_whole(rt, House::Ring, values, true)?;
-        let (time, verdict) = time_first_look(rt, House::Ring, values)?;
-        best = best.and(Measured {
-            time,
-            plain,
-            yes: usize::from(expected),
-            same: verdict == Some(expected),
-        });
+        let whole = time_whole(rt, House::Ring, values, true)?;
+        let look = time_first_look(rt, House::Ring, values)?;
+        best = best.and(beside(look, whole));
     }
     Ok(best)
 }

@@ -6,9 +6,9 @@ use values::ValueTest;
 
 // Puts every pair of the stratum in.
 fn raise(labels: usize, strata: &[u8], stratum: u8, table: &mut [u8]) {
-    for (place, byte) in table.iter_mut().enumerate() {
-        let label = place.checked_rem(labels).unwrap_or(0);
-        if strata.get(label).copied() == Some(stratum) {
+    let labels = strata.iter().take(labels).cycle();
+    for (byte, own) in table.iter_mut().zip(labels) {
+        if *own == stratum {
             *byte = 1;
         }
     }
@@ -56,10 +56,8 @@ fn narrow_stratum<S: Store, V: ValueTest>(
     scratch: &mut Scratch,
 ) -> bool {
     let mut taken = false;
-    for label in 0..32u8 {
-        if strata.get(usize::from(label)).copied() == Some(stratum)
-            && narrow(tables, store, values, label, table, scratch)
-        {
+    for (label, own) in (0..32u8).zip(strata) {
+        if *own == stratum && narrow(tables, store, values, label, table, scratch) {
             taken = true;
         }
     }
@@ -83,14 +81,6 @@ fn settle<S: Store, V: ValueTest>(
     }
 }
 
-fn ones(table: &[u8]) -> usize {
-    let mut count = 0usize;
-    for byte in table {
-        count = count.saturating_add(usize::from(*byte == 1));
-    }
-    count
-}
-
 // Writes the maximal typing, a byte for each pair, and answers how many pairs it has.
 pub fn sweep_by_rounds<S: Store, V: ValueTest>(
     tables: &LawfulTables,
@@ -100,12 +90,10 @@ pub fn sweep_by_rounds<S: Store, V: ValueTest>(
     table: &mut [u8],
     scratch: &mut Scratch,
 ) -> usize {
-    for byte in table.iter_mut() {
-        *byte = 0;
-    }
+    table.fill(0);
     for stratum in 1..=32u8 {
         raise(tables.definitions().len(), strata, stratum, table);
         settle(tables, store, values, strata, stratum, table, scratch);
     }
-    ones(table)
+    table.iter().filter(|byte| **byte == 1).count()
 }

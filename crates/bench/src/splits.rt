@@ -30,6 +30,7 @@ impl Splits<'_> {
         if mask.count_ones() != 1 {
             return false;
         }
+        // No `usize::from` takes a u32.
         let Some((property, object)) = self.arcs.get(mask.trailing_zeros() as usize) else {
             return false;
         };
@@ -68,6 +69,7 @@ impl Splits<'_> {
             return false;
         }
         let mut part = mask;
+        // Timed: a closure for each part would be timed too.
         for _ in 0..part_count(mask) {
             if self.meets(depth - 1, a, part) && self.meets(depth - 1, b, mask ^ part) {
                 return true;
@@ -86,12 +88,10 @@ impl Splits<'_> {
         if mask == 0 {
             return least == 0 || self.meets(depth - 1, row, 0);
         }
-        let fewer = match most {
-            Some(most) => Some(most.saturating_sub(1)),
-            None => None,
-        };
+        let fewer = most.map(|most| most.saturating_sub(1));
         let first = mask & mask.wrapping_neg();
         let mut part = mask;
+        // Timed: a closure for each part would be timed too.
         for _ in 0..part_count(mask) {
             if part & first != 0
                 && self.meets(depth - 1, row, part)
@@ -140,9 +140,9 @@ pub fn satisfies_by_splits<'a, S: Store, V: ValueTest>(
     };
     let mut arcs = [(0, 0); 12];
     let mut whole = 0u16;
-    for place in 0..12u8 {
+    for (slot, place) in arcs.iter_mut().zip(0..12u8) {
         if let Some(arc) = store.arc(node, place) {
-            arcs[usize::from(place)] = arc;
+            *slot = arc;
             whole = whole.wrapping_mul(2) | 1;
         }
     }

@@ -18,6 +18,12 @@ use values::{TermTable, ValueTest};
 // A byte for each pair of 256 nodes and 8 labels.
 pub const TABLE: usize = 2048;
 
+#[derive(Clone, Copy)]
+enum StoreKind {
+    Chain,
+    Rows,
+}
+
 // The part of a table that a house has pairs for.
 fn pairs<'a>(table: &'a mut [u8; TABLE], nodes: u16, labels: usize) -> &'a mut [u8] {
     let size = usize::from(nodes).saturating_mul(labels).min(TABLE);
@@ -75,12 +81,8 @@ fn sweep_round<S: Store + Drop>(
     scratch: &mut Scratch,
 ) -> anyhow::Result<Measured> {
     let mut store = empty;
-    if house.fill(&mut store).is_err() {
-        return Err(anyhow!("a triple is refused"));
-    }
-    let Ok(schema) = house.schema() else {
-        return Err(anyhow!("a draft is refused"));
-    };
+    house.fill(&mut store)?;
+    let schema = house.schema()?;
     let labels = schema.label_count();
     let mut expected = [0; TABLE];
     let table = pairs(&mut expected, house.nodes(), labels);
@@ -96,39 +98,36 @@ fn sweep_round<S: Store + Drop>(
     })
 }
 
-fn measure_chain(rt: &HostRuntime, house: House) -> anyhow::Result<Measured> {
+fn measure(rt: &HostRuntime, house: House, kind: StoreKind) -> anyhow::Result<Measured> {
     let terms = house.terms();
     let values = TermTable::new(&terms, &TESTS);
     let mut scratch = Scratch::new();
     let mut best = Measured::NONE;
     for _ in 0..ROUNDS {
-        let store = ChainStore::new(house.nodes());
-        best = best.and(sweep_round(rt, house, store, values, &mut scratch)?);
-    }
-    Ok(best)
-}
-
-fn measure_rows(rt: &HostRuntime, house: House) -> anyhow::Result<Measured> {
-    let terms = house.terms();
-    let values = TermTable::new(&terms, &TESTS);
-    let mut scratch = Scratch::new();
-    let mut best = Measured::NONE;
-    for _ in 0..ROUNDS {
-        let mut lent = [None; 1024];
-        let store = RowStore::new(&mut lent, house.nodes());
-        best = best.and(sweep_round(rt, house, store, values, &mut scratch)?);
+        let round = match kind {
+            StoreKind::Chain => {
+                let store = ChainStore::new(house.nodes());
+                sweep_round(rt, house, store, values, &mut scratch)?
+            }
+            StoreKind::Rows => {
+                let mut lent = [None; 1024];
+                let store = RowStore::new(&mut lent, house.nodes());
+                sweep_round(rt, house, store, values, &mut scratch)?
+            }
+        };
+        best = best.and(round);
     }
     Ok(best)
 }
 
 pub fn run_sweep(rt: &HostRuntime, case: Case) -> anyhow::Result<()> {
-    let measured = match case {
-        Case::SweepRows => measure_rows(rt, House::Day)?,
-        Case::SweepLine => measure_chain(rt, House::Line)?,
-        Case::SweepLineRows => measure_rows(rt, House::Line)?,
-        Case::SweepRing => measure_chain(rt, House::Ring)?,
-        Case::SweepCrowd => measure_chain(rt, House::Crowd)?,
-        _ => measure_chain(rt, House::Day)?,
+    let (house, kind) = match case {
+        Case::SweepRows => (House::Day, StoreKind::Rows),
+        Case::SweepLine => (House::Line, StoreKind::Chain),
+        Case::SweepLineRows => (House::Line, StoreKind::Rows),
+        Case::SweepRing => (House::Ring, StoreKind::Chain),
+        Case::SweepCrowd => (House::Crowd, StoreKind::Chain),
+        _ => (House::Day, StoreKind::Chain),
     };
-    print_measured(rt, case.name(), measured)
+    print_measured(rt, case.name(), measure(rt, house, kind)?)
 }
