@@ -18,9 +18,8 @@ pub struct Book<'a> {
     pub capacity: usize,
     pub triples: Vec<Triple>,
     pub held: Pairs,
-    // the typing of the triples, while `known`
-    typing: Pairs,
-    known: bool,
+    // the typing of the triples, if they have not changed since it was computed
+    typing: Option<Pairs>,
 }
 
 impl<'a> Book<'a> {
@@ -41,8 +40,7 @@ impl<'a> Book<'a> {
             capacity,
             triples: Vec::new(heap),
             held: Pairs::new(heap, nodes, labels)?,
-            typing: Pairs::new(heap, nodes, labels)?,
-            known: false,
+            typing: None,
         })
     }
 
@@ -51,38 +49,25 @@ impl<'a> Book<'a> {
     }
 
     pub fn has(&self, triple: Triple) -> bool {
-        for t in self.triples.as_slice() {
-            if *t == triple {
-                return true;
-            }
-        }
-        false
+        self.triples.contains(&triple)
     }
 
     pub fn fan(&self, node: u16) -> usize {
-        let mut fan = 0usize;
-        for t in self.triples.as_slice() {
-            if t.subject == node {
-                fan = fan.saturating_add(1);
-            }
-        }
-        fan
+        self.triples.iter().filter(|t| t.subject == node).count()
     }
 
-    // Computes the maximal typing of the triples, if they changed since it was last computed.
-    fn refresh(&mut self) -> Result<(), AllocError> {
-        if !self.known {
-            let typing = self.maximal()?;
-            self.typing = typing;
-            self.known = true;
-        }
-        Ok(())
+    // The maximal typing of the triples, computed if they changed since it was last computed.
+    fn typing(&mut self) -> Result<&Pairs, AllocError> {
+        let typing = match self.typing.take() {
+            Some(typing) => typing,
+            None => self.maximal()?,
+        };
+        Ok(self.typing.insert(typing))
     }
 
     // Whether the pair is in the maximal typing.
     fn verdict(&mut self, node: u16, label: u8) -> Result<bool, AllocError> {
-        self.refresh()?;
-        Ok(self.typing.has(node, label))
+        Ok(self.typing()?.has(node, label))
     }
 
     // The refusal of an add, if there is one.
@@ -171,19 +156,17 @@ impl<'a> Book<'a> {
     }
 
     fn drop_node(&mut self, node: u16) {
-        for label in 0..32u8 {
-            if usize::from(label) < self.labels() {
-                let _ = self.held.set(node, label, false);
-            }
+        for label in (0..32).take(self.labels()) {
+            let _ = self.held.set(node, label, false);
         }
     }
 
     // Drops the pairs of every node that reaches the subject.
     fn edited(&mut self, subject: u16) {
-        self.known = false;
+        self.typing = None;
         let marks = self.reaching(subject);
-        for node in 0..self.nodes {
-            if marks.get(usize::from(node)).copied() == Some(true) {
+        for (node, reaches) in (0..self.nodes).zip(marks) {
+            if reaches {
                 self.drop_node(node);
             }
         }
@@ -202,13 +185,7 @@ impl<'a> Book<'a> {
         if let Some(refusal) = self.withdraw_refusal(triple) {
             return Ok(refusal);
         }
-        let mut rest = Vec::new(self.heap);
-        for t in self.triples.as_slice() {
-            if *t != triple {
-                rest.push(*t)?;
-            }
-        }
-        self.triples = rest;
+        self.triples.retain(|t| *t != triple);
         self.edited(triple.subject);
         Ok(Answer::Accepted)
     }
@@ -217,10 +194,8 @@ impl<'a> Book<'a> {
     fn lean(&self, t: Triple, reached: &mut Pairs) -> bool {
         let mut changed = false;
         for r in self.references.as_slice() {
-            let admitted = match self.draft.sets.get(usize::from(r.set)) {
-                Some(properties) => properties.contains(t.property),
-                None => false,
-            };
+            let set = self.draft.sets.get(usize::from(r.set));
+            let admitted = set.is_some_and(|properties| properties.contains(t.property));
             if admitted && reached.has(t.subject, r.from) {
                 changed = reached.set(t.object, r.to, true) || changed;
             }
@@ -248,22 +223,12 @@ impl<'a> Book<'a> {
         Ok(reached)
     }
 
-    fn hold(&mut self, pairs: &Pairs) {
-        for node in 0..self.nodes {
-            for label in 0..32u8 {
-                if pairs.has(node, label) {
-                    let _ = self.held.set(node, label, true);
-                }
-            }
-        }
-    }
-
     pub fn look(&mut self, node: u16, label: u8) -> Result<Answer, AllocError> {
         if let Some(refusal) = self.pair_refusal(node, label) {
             return Ok(refusal);
         }
         let reached = self.reached(node, label)?;
-        self.hold(&reached);
+        self.held.join(&reached);
         Ok(Answer::Verdict(self.verdict(node, label)?))
     }
 
@@ -281,24 +246,13 @@ impl<'a> Book<'a> {
         if let Some(refusal) = self.sweep_refusal(strata, table.len()) {
             return Ok(refusal);
         }
-        self.refresh()?;
-        let mut pairs = 0usize;
-        for (byte, mark) in table.iter_mut().zip(self.typing.marks()) {
+        let typing = self.typing()?;
+        for (byte, mark) in table.iter_mut().zip(typing.marks()) {
             *byte = u8::from(*mark);
-            pairs = pairs.saturating_add(usize::from(*mark));
         }
-        self.hold_all();
+        let pairs = typing.count();
+        self.held.fill();
         Ok(Answer::Pairs(pairs))
-    }
-
-    fn hold_all(&mut self) {
-        for node in 0..self.nodes {
-            for label in 0..32u8 {
-                if usize::from(label) < self.labels() {
-                    let _ = self.held.set(node, label, true);
-                }
-            }
-        }
     }
 
     pub fn perform(&mut self, call: Call, table: &mut [u8]) -> Result<Answer, AllocError> {

@@ -19,22 +19,14 @@ pub fn same(a: Answer, b: Answer) -> bool {
 
 // Whether the store has the triple, by its questions alone.
 pub fn has_arc<S: Store>(store: &S, triple: Triple) -> bool {
-    for place in 0..store.fan(triple.subject) {
-        if store.arc(triple.subject, place) == Some((triple.property, triple.object)) {
-            return true;
-        }
-    }
-    false
+    let arc = Some((triple.property, triple.object));
+    (0..store.fan(triple.subject)).any(|place| store.arc(triple.subject, place) == arc)
 }
 
 // Whether the store has the book's triples, and no other.
 pub fn same_triples<S: Store>(store: &S, book: &Book) -> bool {
-    for triple in book.triples.as_slice() {
-        if !has_arc(store, *triple) {
-            return false;
-        }
-    }
     usize::from(store.total()) == book.triples.len()
+        && book.triples.iter().all(|triple| has_arc(store, *triple))
 }
 
 // Whether the validator holds the book's pairs, each with the book's verdict, and no other.

@@ -39,6 +39,23 @@ impl Pairs {
         }
     }
 
+    // Puts the other set's pairs in; both are for the same nodes and labels.
+    pub fn join(&mut self, other: &Pairs) {
+        for (mark, more) in self.marks.iter_mut().zip(other.marks()) {
+            *mark = *mark || *more;
+        }
+    }
+
+    // Puts all pairs in.
+    pub fn fill(&mut self) {
+        self.marks.fill(true);
+    }
+
+    // How many pairs are in the set.
+    pub fn count(&self) -> usize {
+        self.marks.iter().filter(|mark| **mark).count()
+    }
+
     // The pairs by node and then by label.
     pub fn marks(&self) -> &[bool] {
         self.marks.as_slice()

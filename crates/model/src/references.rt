@@ -16,10 +16,8 @@ pub(crate) const DEEPEST: u8 = 130;
 
 pub fn find_references(heap: Global, draft: &Draft) -> Result<Vec<Reference>, AllocError> {
     let mut found = Vec::new(heap);
-    for label in 0..32u8 {
-        if let Some(row) = draft.definitions.get(usize::from(label)) {
-            in_shape(draft, DEEPEST, *row, label, false, &mut found)?;
-        }
+    for (label, row) in (0..32).zip(draft.definitions) {
+        in_shape(draft, DEEPEST, *row, label, false, &mut found)?;
     }
     Ok(found)
 }
@@ -88,25 +86,19 @@ fn lowest(bytes: &[u8], reference: Reference) -> u8 {
 
 // Whether the first bytes, one for each label, are from 1 to 32.
 fn within(bytes: &[u8], labels: usize) -> bool {
-    for byte in bytes.iter().take(labels) {
-        if *byte < 1 || *byte > 32 {
-            return false;
-        }
-    }
-    true
+    bytes
+        .iter()
+        .take(labels)
+        .all(|byte| *byte >= 1 && *byte <= 32)
 }
 
 // Whether the first bytes, one for each label, are a stratification.
 pub fn stratifies(references: &[Reference], labels: usize, bytes: &[u8]) -> bool {
-    if bytes.len() < labels || !within(bytes, labels) {
-        return false;
-    }
-    for reference in references {
-        if number(bytes, reference.from) < lowest(bytes, *reference) {
-            return false;
-        }
-    }
-    true
+    bytes.len() >= labels
+        && within(bytes, labels)
+        && references
+            .iter()
+            .all(|reference| number(bytes, reference.from) >= lowest(bytes, *reference))
 }
 
 // Raises each label that is too low for its references, once.

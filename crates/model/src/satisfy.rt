@@ -58,14 +58,14 @@ impl<'d, 'a> Node<'d, 'a> {
         let Some(properties) = self.draft.sets.get(usize::from(set)) else {
             return false;
         };
-        let mut bit = 1u16;
-        for (property, object) in self.arcs {
-            if chosen == bit {
-                return properties.contains(*property) && self.typing.has(*object, label);
-            }
-            bit = bit.wrapping_mul(2);
+        if !chosen.is_power_of_two() {
+            return false;
         }
-        false
+        self.arcs
+            .get(chosen.trailing_zeros() as usize)
+            .is_some_and(|(property, object)| {
+                properties.contains(*property) && self.typing.has(*object, label)
+            })
     }
 
     fn row_step(&self, row: u8, chosen: u16) -> Step {
@@ -121,11 +121,7 @@ impl<'d, 'a> Node<'d, 'a> {
     }
 
     fn all_arcs(&self) -> u16 {
-        let mut all = 0u16;
-        for _ in self.arcs {
-            all = all.wrapping_mul(2) | 1;
-        }
-        all
+        self.arcs.iter().fold(0, |all, _| all << 1 | 1)
     }
 
     // Whether the node satisfies the shape row.

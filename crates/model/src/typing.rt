@@ -7,24 +7,19 @@ use std::alloc::AllocError;
 
 impl<'a> Book<'a> {
     fn arcs(&self, node: u16) -> Result<Vec<(u8, u16)>, AllocError> {
-        let mut arcs = Vec::new(self.heap);
-        for t in self.triples.as_slice() {
-            if t.subject == node {
-                arcs.push((t.property, t.object))?;
-            }
-        }
-        Ok(arcs)
+        self.triples
+            .iter()
+            .filter(|t| t.subject == node)
+            .map(|t| (t.property, t.object))
+            .collect(self.heap)
     }
 
     // The labels of the stratum, each with its definition.
     fn definitions(&self, strata: &[u8; 32], stratum: u8) -> Result<Vec<(u8, u8)>, AllocError> {
         let mut found = Vec::new(self.heap);
-        for label in 0..32u8 {
-            let own = strata.get(usize::from(label)).copied();
-            if let Some(row) = self.draft.definitions.get(usize::from(label)) {
-                if own == Some(stratum) {
-                    found.push((label, *row))?;
-                }
+        for ((label, row), own) in (0..32).zip(self.draft.definitions).zip(strata) {
+            if *own == stratum {
+                found.push((label, *row))?;
             }
         }
         Ok(found)
@@ -88,7 +83,7 @@ impl<'a> Book<'a> {
         let strata = strata(self.references.as_slice());
         for stratum in 1..33 {
             let labels = self.definitions(&strata, stratum)?;
-            if labels.len() > 0 {
+            if !labels.is_empty() {
                 self.refine(labels.as_slice(), &mut typing)?;
             }
         }
