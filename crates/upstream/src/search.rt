@@ -29,13 +29,13 @@ fn mark(node: u16, marks: &mut [bool; 256], waiting: &mut Stack<u16>)
 fn mark_all(nodes: &NodeSet, marks: &mut [bool; 256], waiting: &mut Stack<u16>)
     requires room { length (entries waiting.old.slots.now waiting.old.len) + unmarked marks.old ≤ length waiting.old.slots.now }
     ensures change { Grown (Has nodes.now) marks.old (entries waiting.old.slots.now waiting.old.len) marks.new (entries waiting.new.slots.now waiting.new.len) }
-    ensures made { (n : ℕ) → n < 256 → Has nodes.now n → marked marks.new n ≡ true }
+    ensures made { (n : ℕ) → Has nodes.now n → marked marks.new n ≡ true }
     ensures kept { length waiting.new.slots.now ≡ length waiting.old.slots.now }
 {
-    for node in 0..256 {
-        if nodes.contains(node) {
-            mark(node, marks, waiting);
-        }
+    let mut seen = NodeSet::NONE;
+    while let Some(node) = nodes.first_outside(&seen) {
+        seen.insert(node);
+        mark(node, marks, waiting);
     }
 }
 

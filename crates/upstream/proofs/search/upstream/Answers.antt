@@ -6,7 +6,6 @@ use Rattle.stack.specs.Entries.{entries}
 use Rattle.upstream.specs.Arcs.{Leads}
 use Rattle.upstream.specs.Nodes.{Has}
 use Rattle.upstream.specs.Search.{unmarked, Searching, Grown}
-use Rattle.upstream.proofs.Arcs.{leads_below}
 use Rattle.upstream.proofs.Marking.{grown_like, marked_none, waits_below, searching_one, searching_more, searched}
 use Rattle.upstream.proofs.search.upstream.Goals as goal
 
@@ -51,12 +50,10 @@ loop-node-preserved g c =
     let arcs = g.S.Store.arcs c.args.store.now in
     let value : (n : ℕ) → Has c.sources.result.now n ↔ Leads arcs n c.in-Some.node =
     λ n. subst (λ s. Has s n ↔ Leads arcs n c.in-Some.node) (sym c.sources.ensures) (c.of-backward.ensures n c.in-Some.node) in
-    let below : (n : ℕ) → Leads arcs n c.in-Some.node → n < 256 =
-    λ n l. let b = leads_below arcs (g.S.Store.nodes c.args.store.now) c.lawful.ensures.past n c.in-Some.node l in let s = c.lawful.ensures.small in omega arith in
     let step = c.mark_all.ensures.change in
     let number = step.number in (
       λ passes. searching_more _ _ _ _ _ _ c.in-Some.node (subst (Searching _ _ _) popped (inv.0 passes))
-          (grown_like _ _ _ _ _ _ (λ n. (value n).0) step) (λ n l. c.mark_all.ensures.made n (below n l) ((value n).1 l)),
+          (grown_like _ _ _ _ _ _ (λ n. (value n).0) step) (λ n l. c.mark_all.ensures.made n ((value n).1 l)),
       omega (arith, c.mark_all.ensures.kept, ap length c.in-Some.ensures.same),
       c.mark_all.array_long,
     )

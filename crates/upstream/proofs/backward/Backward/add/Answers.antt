@@ -34,7 +34,7 @@ loop-place-preserved g c =
           let arc = w.in-Some.ensures in
           let within = inside_nth _ _ i _ w.in-Some.object (c.lawful.ensures.within node) arc in
           let small = c.lawful.ensures.small in
-          let more = leading_more c.loop-place.self node at w.insert.new.self (omega (arith, w.from.ensures)) w.insert.ensures in
+          let more = leading_more c.loop-place.self node at w.insert.new.self (omega (arith, w.from.ensures)) w.insert.ensures.change in
           subst P (sym w.self-is) (record {
             kept = λ n o h. (more n o).1 (inl (inv.kept n o h));
             more = λ n o h. ⊎_elim (inv.more n o) (λ (x : (n ≡ node) × (o ≡ at)). inr (x.0, subst (λ k. Leads arcs k o) (sym x.0) (subst (Leads arcs node) (sym (x.1 ∙ w.from.ensures)) (arc_leads arcs node i _ arc)))) ((more n o).0 h);
