@@ -20,7 +20,7 @@ pub struct SweepLine {
     pub room: Option<u16>,
 }
 
-// The first `given` bytes are proposed.
+// The first `given` bytes are proposed. An array and a count, as in the sweep of a list of calls, which is made of it.
 #[derive(Clone, Copy)]
 pub struct Proposal {
     pub strata: [u8; 33],

@@ -4,6 +4,7 @@ ghost use Rattle.std.specs.Prelude.{◌≡◌, ◌^◌, ◌≤◌, min};
 // The most masks that there are, 2^12.
 pub const MASKS: usize = 4096;
 
+// A fan stands beside the arrays and not in a struct with each: one fan serves all arrays of a row, and their memory is lent.
 #[derive(Clone, Copy)]
 pub struct Fan {
     pub value: usize,

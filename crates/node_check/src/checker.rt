@@ -13,6 +13,7 @@ use tables::LawfulTables;
 use triple::Store;
 use values::ValueTest;
 
+// What a call leaves as it was stands in each `kept`: it speaks of two states, so no type can hold it.
 #[derive(Drop)]
 pub struct Checker<'a, S, V> {
     pub tables: &'a LawfulTables,

@@ -5,6 +5,7 @@ use std::alloc::{AllocError, Global};
 use triple::{Store, Triple};
 
 // What a load answers: each refusal by its number, with the node, or the entry and the refusal of its add.
+// Not a Result with the fault: these tests hold the numbers.
 #[derive(Clone, Copy, PartialEq, Debug)]
 pub(crate) enum Outcome {
     Loaded(usize),

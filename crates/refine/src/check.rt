@@ -5,6 +5,7 @@ ghost use Rattle.shapes.specs.Lists.{Member};
 ghost use Rattle.shapes.specs.Typing.{Graph};
 ghost use Rattle.refine.specs.Tables.{Checked};
 
+// What a call leaves as it was stands in each `kept`: it speaks of two states, so no type can hold it.
 pub trait NodeCheck {
     ghost schema: { Self → Schema };
 

@@ -14,6 +14,7 @@ pub enum Layer {
     Store,
 }
 
+// By hand: a layer is no error, and the library derives no names of cases.
 impl fmt::Display for Layer {
     fn fmt<W: fmt::Write>(&self, f: &mut fmt::Formatter<W>) -> fmt::Result {
         match self {

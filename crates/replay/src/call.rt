@@ -48,7 +48,7 @@ impl Call {
     }
 }
 
-// A refusal has its layer and its number.
+// A refusal has its layer and its number. No Result: the calls give four types, so it would hold these cases one level deeper.
 #[derive(Clone, Copy, PartialEq, Eq, Debug)]
 pub enum Answer {
     Accepted,

@@ -64,6 +64,7 @@ fn widen<'a, S: Store, V: ValueTest>(
     decide(&mut check, &strata, held, wanted, verdicts).unwrap();
 }
 
+// Schema, store and values stand one by one: with a struct of the three borrows the borrow check does not cover these calls (tried).
 impl Memory {
     // Decides the wanted pairs, and holds them.
     fn decide_wanted<S: Store, V: ValueTest>(&mut self, schema: &Schema, store: &S, values: &V)
