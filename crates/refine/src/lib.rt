@@ -8,4 +8,4 @@ mod strata;
 mod write;
 
 pub use check::NodeCheck;
-pub use strata::{TooShort, decide};
+pub use strata::{TooShort, decide, try_decide};

@@ -31,7 +31,7 @@ fn has_room(
 
 /// Writes the verdict on each wanted pair: 1 if the node conforms to the label, else 0.
 /// The held pairs have theirs in the table already.
-pub fn decide<C: NodeCheck>(
+pub fn try_decide<C: NodeCheck>(
     check: &mut C,
     strata: &[u8],
     held: &[u8],
@@ -67,4 +67,21 @@ pub fn decide<C: NodeCheck>(
         }
     }
     Ok(())
+}
+
+/// The same, where the caller knows that the slices are long enough; those that are too short leave all as it is.
+pub fn decide<C: NodeCheck>(
+    check: &mut C,
+    strata: &[u8],
+    held: &[u8],
+    wanted: &[u8],
+    typing: &mut [u8],
+)
+    ensures kept { (C.NodeCheck.schema check.new ≡ C.NodeCheck.schema check.old) × (C.NodeCheck.graph check.new ≡ C.NodeCheck.graph check.old) }
+    ensures same { Untouched (C.NodeCheck.schema check.old) (C.NodeCheck.graph check.old) wanted.now typing.old typing.new }
+    ensures bound { Written (C.NodeCheck.schema check.old) (C.NodeCheck.graph check.old) strata.now held.now wanted.now typing.old typing.new }
+    ensures long { length typing.new ≡ length typing.old }
+    ensures value { Decided (C.NodeCheck.schema check.old) (C.NodeCheck.graph check.old) strata.now held.now wanted.now typing.old typing.new }
+{
+    let _ = try_decide(check, strata, held, wanted, typing);
 }

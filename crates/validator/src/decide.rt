@@ -61,7 +61,7 @@ fn widen<'a, S: Store, V: ValueTest>(
         values,
         scratch,
     };
-    decide(&mut check, &strata, held, wanted, verdicts).unwrap();
+    decide(&mut check, &strata, held, wanted, verdicts);
 }
 
 // Schema, store and values stand one by one: with a struct of the three borrows the borrow check does not cover these calls (tried).

@@ -1,6 +1,6 @@
 use Rattle.std.proofs.Common.{◌≡◌}
 use Rattle.refine.proofs.Decisions.{Risen}
-use Rattle.refine.proofs.strata.decide.Given as goal
+use Rattle.refine.proofs.strata.try_decide.Given as goal
 
 abbrev pub invariant-loop-stratum : goal.invariant-loop-stratum
 invariant-loop-stratum g l =

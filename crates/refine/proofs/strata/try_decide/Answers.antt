@@ -4,8 +4,8 @@ use Rattle.std.proofs.lemmas.List.{get_or-take, length-append, length-drop, leng
 use Rattle.std.proofs.lemmas.List.Folds.{list_any_at}
 use Rattle.refine.proofs.Writing.{prefix_written}
 use Rattle.refine.proofs.Decisions.{risen_start, risen_next, risen_skipped, risen_decided}
-use Rattle.refine.proofs.strata.decide.Goals as goal
-use Rattle.refine.proofs.strata.decide.Goals.{then-contains, else-contains}
+use Rattle.refine.proofs.strata.try_decide.Goals as goal
+use Rattle.refine.proofs.strata.try_decide.Goals.{then-contains, else-contains}
 
 pub narrow-requires : goal.narrow-requires
 narrow-requires g c =
