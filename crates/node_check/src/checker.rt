@@ -10,7 +10,7 @@ use crate::shape::shape_rows;
 use hoods::{Neighbourhood, NodeArcs, Scratch};
 use refine::NodeCheck;
 use tables::LawfulTables;
-use triple::Store;
+use triple::{Arcs, Store};
 use values::ValueTest;
 
 #[derive(Drop)]
@@ -95,13 +95,6 @@ impl<'a, S: Store, V: ValueTest> NodeCheck for Checker<'a, S, V> {
     }
 
     fn leads_to(&self, node: u16, object: u16) -> bool {
-        for place in 0..self.store.fan(node) {
-            if let Some((_, found)) = self.store.arc(node, place) {
-                if found == object {
-                    return true;
-                }
-            }
-        }
-        false
+        Arcs::of(self.store, node).any(|(_, found)| found == object)
     }
 }
