@@ -1,7 +1,7 @@
--- The typing in a table, read with and without the bound on nodes; arcs by place and by membership. Assumes nothing.
-use Rattle.std.proofs.Common.{◌≡◌, ℕ, zero, suc, ◌+◌, ◌<◌, ◌≤◌, true, ◌↔◌, List, [], ◌∷◌, length, Some, Option, sym, refl, ap, ◌∙◌, subst, ⊎_elim, arith}
-use Rattle.std.specs.List.{slice_get}
-use Rattle.std.proofs.lemmas.Bool.{and_parts, lt-ltb, ltb-true, cases_lt}
+-- The typing in a table, read with and without the bound on nodes; arcs by a test and by membership. Assumes nothing.
+use Rattle.std.proofs.Common.{◌≡◌, ℕ, ◌<◌, true, ◌==◌, ◌↔◌, List, [], ◌∷◌, sym, refl, ◌∙◌, subst, inl, inr}
+use Rattle.std.specs.List.{list_any}
+use Rattle.std.proofs.lemmas.Bool.{false≢true, and_parts, or_cases, or_left, or_right, eq-eqb, eqb-true, lt-ltb, ltb-true}
 use Rattle.triple.specs.Arcs.{inside}
 use Rattle.shapes.specs.Bytes.{byte_typing}
 use Rattle.shapes.specs.Expr.{Schema}
@@ -31,22 +31,16 @@ satisfied_bounded S G table n l h =
       satisfies_local S.sets B T (G.passes n) (G.arcs n) (S.definition l) (λ p o m k a. back p o m k) (λ p o m k a b. there p o m k),
     )
 
--- arcs by place
+-- the test that finds an arc to the object o
+module _ (o : ℕ) where
+  pub member_object : (zs : List (ℕ × ℕ)) → list_any (λ a. a.1 == o) zs ≡ true → (p : ℕ) × Member (p, o) zs
+  member_object [] e = absurd (false≢true e)
+  member_object (z ∷ zs) e =
+      elim (or_cases (z.1 == o) (list_any (λ a. a.1 == o) zs) e) [
+        | inl h ↦ (z.0, subst (λ k. Member (z.0, k) (z ∷ zs)) (eqb-true z.1 o h) first)
+        | inr h ↦ (let m = member_object zs h in (m.0, later m.1))
+      ]
 
--- the object o stands at none of the first places
-abbrev pub Passed : List (ℕ × ℕ) → ℕ → ℕ → Type 0
-Passed zs i o = (j p : ℕ) → j < i → slice_get zs j ≡ Some (p, o) → ⊥
-
-pub passed_none : (zs : List (ℕ × ℕ)) (i p o : ℕ) → length zs ≤ i → Passed zs i o → Member (p, o) zs → ⊥
-passed_none [] i p o h f m = elim m [ ]
-passed_none (z ∷ zs) zero p o h f m = let y : ⊥ = omega arith in elim y [ ]
-passed_none (z ∷ zs) (suc i) p o h f first = f 0 p (omega arith) refl
-passed_none (z ∷ zs) (suc i) p o h f (later m) = passed_none zs i p o (omega arith) (λ j q l e. f (suc j) q (omega arith) e) m
-
-pub passed_more : (zs : List (ℕ × ℕ)) (i o : ℕ) → Passed zs i o → ((p : ℕ) → slice_get zs i ≡ Some (p, o) → ⊥) → Passed zs (i + 1) o
-passed_more zs i o f g j p h e =
-    ⊎_elim (λ (l : j < i). f j p l e) (λ (l : i ≤ j). let q : j ≡ i = omega arith in g p (subst (λ k. slice_get zs k ≡ Some (p, o)) q e)) (cases_lt j i)
-
--- two arcs at one place are equal
-pub other_object : (r : Option (ℕ × ℕ)) (p q x o : ℕ) → r ≡ Some (p, x) → (x ≡ o → ⊥) → r ≡ Some (q, o) → ⊥
-other_object r p q x o e d f = let same : ◌≡◌ {A = ℕ × ℕ} (p, x) (q, o) = cc in d (ap (λ (a : ℕ × ℕ). a.1) same)
+  pub object_member : (p : ℕ) {zs : List (ℕ × ℕ)} → Member (p, o) zs → list_any (λ a. a.1 == o) zs ≡ true
+  object_member p (first {zs = zs}) = or_left _ _ (eq-eqb o o refl)
+  object_member p (later {b = z} m) = or_right (z.1 == o) _ (object_member p m)
