@@ -1,15 +1,27 @@
--- The arcs of a node, by place. Assumes nothing.
-use Rattle.std.proofs.Common.{◌≡◌, ℕ, ◌<◌, List, length, Some, None, ap, ◌∙◌, arith}
+-- Walks over the arcs of a node. Assumes nothing.
+use Rattle.std.proofs.Common.{◌≡◌, ℕ, List, length, Some, None, refl, sym, ap, ◌∙◌}
 use Rattle.std.proofs.lemmas.Option.{slice_get-get_or}
+use Rattle.std.proofs.lemmas.List.{map-id}
+use Rattle.std.proofs.lemmas.Iterator.{YieldsList}
+use Rattle.std.proofs.lemmas.Iterator.Consumers.{YieldsList-from_first, YieldsList-turn, YieldsList-end}
+use Rattle.std.specs.Iterator.{Yields, YieldsFirst}
 use Rattle.std.specs.List.{slice_get}
-use Rattle.shapes.specs.Lists.{Member}
-use Rattle.shapes.proofs.Lists.{member_place}
+use Rattle.triple.specs.Arcs.{Arc}
+use Rattle.triple.specs.Walks.{arcs_left}
+use Rattle.triple.specs.declared.arcs.Arcs.{Arcs}
 
-pub member_nth : (zs : List (ℕ × ℕ)) (a : ℕ × ℕ) → Member a zs → (j : ℕ) × (j < length zs) × (slice_get zs j ≡ Some a)
-member_nth zs a m = let w = member_place m (0, 0) in (w.0, w.1, slice_get-get_or zs w.0 (0, 0) w.1 ∙ ap Some w.2)
+-- a walk gives the next arc, until it has given all
+module _ {S : Type 0} (arcs : S → ℕ → List Arc) (zs : List Arc) (begun s t u : Arcs S) (xs : List Arc) (left : arcs_left arcs begun ≡ zs) (same : s ≡ begun) (led : Yields (YieldsFirst (arcs_left arcs)) s xs t) where
+  abbrev Walk : Type 0
+  Walk = YieldsList (YieldsFirst (arcs_left arcs)) (λ x. x) s zs
 
-pub same_arc : (zs : List (ℕ × ℕ)) (i : ℕ) (a b : ℕ × ℕ) → slice_get zs i ≡ Some a → Some b ≡ slice_get zs i → a ≡ b
-same_arc zs i a b e f = cc
+  pub next_arc : (x : Arc) → YieldsFirst (arcs_left arcs) t (Some x) u → Some x ≡ slice_get zs (length xs)
+  next_arc x step =
+      let walk : Walk = YieldsList-from_first (λ x. x) (arcs_left arcs) zs (ap (arcs_left arcs) same ∙ left) in
+      let w = YieldsList-turn walk xs t led (Some x) u x refl step in
+      sym (slice_get-get_or zs (length xs) x w.0 ∙ ap Some (sym w.1))
 
-pub no_arc : (zs : List (ℕ × ℕ)) (i : ℕ) (a : ℕ × ℕ) → slice_get zs i ≡ Some a → None ≡ slice_get zs i → ⊥
-no_arc zs i a e f = let z : ◌≡◌ {A = ℕ} 0 1 = cc in omega arith
+  pub all_arcs : YieldsFirst (arcs_left arcs) t None u → xs ≡ zs
+  all_arcs step =
+      let walk : Walk = YieldsList-from_first (λ x. x) (arcs_left arcs) zs (ap (arcs_left arcs) same ∙ left) in
+      sym (map-id xs) ∙ (YieldsList-end walk xs t led None u refl step).0

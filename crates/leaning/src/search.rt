@@ -16,7 +16,7 @@ use crate::pairs::Pairs;
 use labels::LabelSet;
 use stack::{Goal, Stack};
 use tables::LawfulTables;
-use triple::Store;
+use triple::{Arcs, Store};
 
 // The pairs that were marked, none of them held, and those that wait for their visit.
 // The stack is borrowed, since a lent slice beside a field that itself holds a lent slice is lost to the lender's proof.
@@ -99,10 +99,8 @@ impl<'a, 'b> Search<'a, 'b> {
     {
         tables.lawful();
         store.lawful();
-        for place in 0..store.fan(pair.node) {
-            if let Some((property, object)) = store.arc(pair.node, place) {
-                self.mark_labels(object, admitted(tables, pair.label, property));
-            }
+        for (property, object) in Arcs::of(store, pair.node) {
+            self.mark_labels(object, admitted(tables, pair.label, property));
         }
     }
 

@@ -1,11 +1,17 @@
--- One more arc, and the arcs of a node by place. Assumes nothing.
-use Rattle.std.proofs.Common.{◌≡◌, ℕ, ◌<◌, ◌≤◌, ◌⊎◌, ◌↔◌, List, [], length, set, replicate, Some, None, sym, ap, ◌∙◌, subst, inl, inr, ⊎_elim, arith, get_or-set_other, get_or-set_same}
+-- One more arc, and walks over the arcs of a node. Assumes nothing.
+use Rattle.std.proofs.Common.{◌≡◌, ℕ, ◌<◌, ◌≤◌, ◌⊎◌, ◌↔◌, List, [], length, set, replicate, Some, None, refl, sym, ap, ◌∙◌, subst, inl, inr, ⊎_elim, arith, get_or-set_other, get_or-set_same}
 use Rattle.std.proofs.lemmas.Option.{slice_get-get_or}
 use Rattle.std.proofs.lemmas.Bool.{cases_eq, cases_lt}
-use Rattle.std.proofs.lemmas.List.{get_or-replicate, get_or_past, length-replicate}
+use Rattle.std.proofs.lemmas.List.{map-id, get_or-replicate, get_or_past, length-replicate}
+use Rattle.std.proofs.lemmas.Iterator.{YieldsList}
+use Rattle.std.proofs.lemmas.Iterator.Consumers.{YieldsList-from_first, YieldsList-turn, YieldsList-end}
+use Rattle.std.specs.Iterator.{Yields, YieldsFirst}
 use Rattle.std.specs.List.{slice_get}
 use Rattle.shapes.specs.Lists.{Member}
-use Rattle.shapes.proofs.Lists.{member_place, nth_member}
+use Rattle.shapes.proofs.Lists.{nth_member}
+use Rattle.triple.specs.Arcs.{Arc}
+use Rattle.triple.specs.Walks.{arcs_left}
+use Rattle.triple.specs.declared.arcs.Arcs.{Arcs}
 use Rattle.upstream.specs.Arcs.{Leads, sources_of, Leading}
 use Rattle.upstream.specs.Nodes.{Has}
 use Rattle.upstream.proofs.Nodes.{none_has}
@@ -38,14 +44,21 @@ leading_more b node object s h change n o = ⊎_elim
 pub arc_leads : (arcs : ℕ → List (ℕ × ℕ)) (n i : ℕ) (a : ℕ × ℕ) → Some a ≡ slice_get (arcs n) i → Leads arcs n a.1
 arc_leads arcs n i a e = (a.0, nth_member (arcs n) i a (sym e))
 
-pub arc_object : (zs : List (ℕ × ℕ)) (i : ℕ) (a b : ℕ × ℕ) → slice_get zs i ≡ Some a → Some b ≡ slice_get zs i → a.1 ≡ b.1
-arc_object zs i a b e f = cc
+-- a walk gives the next arc, until it has given all
+module _ {S : Type 0} (arcs : S → ℕ → List Arc) (zs : List Arc) (begun s t u : Arcs S) (xs : List Arc) (left : arcs_left arcs begun ≡ zs) (same : s ≡ begun) (led : Yields (YieldsFirst (arcs_left arcs)) s xs t) where
+  abbrev Walk : Type 0
+  Walk = YieldsList (YieldsFirst (arcs_left arcs)) (λ x. x) s zs
 
-pub no_arc : (zs : List (ℕ × ℕ)) (i : ℕ) (a : ℕ × ℕ) → slice_get zs i ≡ Some a → None ≡ slice_get zs i → ⊥
-no_arc zs i a e f = let z : ◌≡◌ {A = ℕ} 0 1 = cc in omega arith
+  pub next_arc : (x : Arc) → YieldsFirst (arcs_left arcs) t (Some x) u → Some x ≡ slice_get zs (length xs)
+  next_arc x step =
+      let walk : Walk = YieldsList-from_first (λ x. x) (arcs_left arcs) zs (ap (arcs_left arcs) same ∙ left) in
+      let w = YieldsList-turn walk xs t led (Some x) u x refl step in
+      sym (slice_get-get_or zs (length xs) x w.0 ∙ ap Some (sym w.1))
 
-pub leads_at : (arcs : ℕ → List (ℕ × ℕ)) (n o : ℕ) → (l : Leads arcs n o) → (j : ℕ) × (j < length (arcs n)) × (slice_get (arcs n) j ≡ Some (l.0, o))
-leads_at arcs n o l = let w = member_place l.1 (0, 0) in (w.0, w.1, slice_get-get_or (arcs n) w.0 (0, 0) w.1 ∙ ap Some w.2)
+  pub all_arcs : YieldsFirst (arcs_left arcs) t None u → xs ≡ zs
+  all_arcs step =
+      let walk : Walk = YieldsList-from_first (λ x. x) (arcs_left arcs) zs (ap (arcs_left arcs) same ∙ left) in
+      sym (map-id xs) ∙ (YieldsList-end walk xs t led None u refl step).0
 
 -- a node past the end has no arcs
 pub leads_below : (arcs : ℕ → List (ℕ × ℕ)) (nodes : ℕ) → ((n : ℕ) → nodes ≤ n → arcs n ≡ []) → (n o : ℕ) → Leads arcs n o → n < nodes

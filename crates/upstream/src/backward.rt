@@ -3,7 +3,7 @@ ghost use Rattle.std.specs.Prelude.{◌≡◌, ℕ, ◌<◌, ◌↔◌};
 ghost use Rattle.upstream.specs.Arcs.{Leads, sources_of, Leading, Added};
 
 use crate::node_set::NodeSet;
-use triple::Store;
+use triple::{Arcs, Store};
 
 // For each object the nodes that have an arc to it.
 #[derive(Clone, Copy)]
@@ -25,10 +25,8 @@ impl Backward {
         ensures { Added (S.Store.arcs store.now) node self.old self.new }
     {
         store.lawful();
-        for place in 0..store.fan(node) {
-            if let Some((_, object)) = store.arc(node, place) {
-                self.sources[usize::from(object)].insert(node);
-            }
+        for (_, object) in Arcs::of(store, node) {
+            self.sources[usize::from(object)].insert(node);
         }
     }
 
