@@ -7,13 +7,13 @@ use std::ops::Range;
 // The wanted pairs whose label has the stratum.
 #[derive(Drop)]
 pub(crate) struct Due<'a> {
-    pub nodes: usize,
-    pub labels: usize,
+    pub(crate) nodes: usize,
+    pub(crate) labels: usize,
     // The stratum of each label.
-    pub strata: &'a [u8],
+    pub(crate) strata: &'a [u8],
     // A byte for each pair, in a row for each node: 1 where the pair is wanted.
-    pub wanted: &'a [u8],
-    pub stratum: u8,
+    pub(crate) wanted: &'a [u8],
+    pub(crate) stratum: u8,
     ghost few_nodes: { nodes ≤ 256 },
     ghost few_labels: { labels ≤ 32 },
     ghost strata_long: { labels ≤ length strata.now },
@@ -25,7 +25,7 @@ impl Due<'_> {
     ghost use Rattle.refine.specs.Due.{is_due, Raised, Cleared};
 
     // The places of a node's pairs.
-    pub fn row(&self, node: u16) -> Range<usize>
+    pub(crate) fn row(&self, node: u16) -> Range<usize>
         requires { node < self.now.nodes }
         ensures start { result.start ≡ node * self.now.labels }
         ensures end { result.end ≡ result.start + self.now.labels }
@@ -36,7 +36,7 @@ impl Due<'_> {
     }
 
     // Whether a pair of the node is due and in its row.
-    pub fn is_in(&self, node: u16, row: &[u8]) -> bool
+    pub(crate) fn is_in(&self, node: u16, row: &[u8]) -> bool
         requires { node < self.now.nodes }
         ensures { Decides result ((l : ℕ) × (l < self.now.labels) × (slice_index row.now l ≡ 1) × (is_due self.now (node * self.now.labels + l) ≡ true)) }
     {
@@ -49,7 +49,7 @@ impl Due<'_> {
     }
 
     // Takes out of a node's row the due pairs whose label is not found; says whether there is one.
-    pub fn clear(&self, node: u16, found: &[bool; 32], row: &mut [u8]) -> bool
+    pub(crate) fn clear(&self, node: u16, found: &[bool; 32], row: &mut [u8]) -> bool
         requires node_bound { node < self.now.nodes }
         requires row_long { length row.old ≡ self.now.labels }
         ensures { Cleared self.now node found.now row.old result row.new }
@@ -61,7 +61,7 @@ impl Due<'_> {
     }
 
     // Puts every due pair in.
-    pub fn raise(&self, typing: &mut [u8])
+    pub(crate) fn raise(&self, typing: &mut [u8])
         requires { self.now.nodes * self.now.labels ≤ length typing.old }
         ensures { Raised self.now typing.old typing.new }
     {

@@ -42,7 +42,7 @@ impl<'a> RowStore<'a> {
         &self.rows[..self.rows.len().min(MAX_ROWS)]
     }
 
-    // The first row that is this one.
+    // A row equal to this one, if there is one.
     fn find(&self, row: Option<Triple>) -> Option<usize>
         ensures { MatchOption result (¬ Contains (take 1024 self.now.rows.now) row) (λ i. (i < length (take 1024 self.now.rows.now)) × (slice_index_or (take 1024 self.now.rows.now) i free ≡ row)) }
     {

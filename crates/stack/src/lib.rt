@@ -15,7 +15,7 @@ pub struct Goal {
 #[derive(Clone, Copy, PartialEq, Eq, Debug)]
 pub struct Full;
 
-// The entries are the first `len` slots, the newest last.
+// The entries are the first `len` slots, the newest last. The slots are lent, so their number stands beside them.
 #[derive(Drop)]
 pub struct Stack<'a, T> {
     slots: &'a mut [T],

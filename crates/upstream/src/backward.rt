@@ -6,7 +6,7 @@ use crate::node_set::NodeSet;
 use triple::{Arcs, Store};
 
 // For each object the nodes that have an arc to it.
-#[derive(Clone, Copy)]
+#[derive(Drop)]
 pub(crate) struct Backward {
     sources: [NodeSet; 256],
 }

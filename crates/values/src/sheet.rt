@@ -4,6 +4,7 @@ ghost use Rattle.values.specs.Sheet.{literal_byte, passes_byte};
 
 use crate::ValueTest;
 
+// Two tables of bytes with the number of tests: the format that callers have.
 // The answers stand by rows: all tests of node 0, then all tests of node 1, and so on.
 #[derive(Clone, Copy, PartialEq, Eq, Debug)]
 pub struct AnswerSheet<'a> {
