@@ -17,11 +17,9 @@ fn last(rows: usize) -> u8 {
 
 // All properties of the examples are below 64, so one word holds them.
 fn word(properties: &[u8]) -> u64 {
-    let mut bits = 0u64;
-    for property in properties {
-        bits |= 1 << (*property % 64);
-    }
-    bits
+    properties
+        .iter()
+        .fold(0, |bits, property| bits | 1 << (*property % 64))
 }
 
 pub(crate) fn only(properties: &[u8]) -> PropertySet {

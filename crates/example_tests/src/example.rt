@@ -31,16 +31,6 @@ pub(crate) fn triple(subject: u16, property: u8, object: u16) -> Triple {
     }
 }
 
-// Whether the pair is among the pairs.
-fn among(pairs: &[(u16, u8)], node: u16, label: u8) -> bool {
-    for (n, l) in pairs {
-        if *n == node && *l == label {
-            return true;
-        }
-    }
-    false
-}
-
 impl<'a, V: ValueTest + Copy + Drop> Example<'a, V> {
     fn size(&self) -> usize {
         usize::from(self.nodes).saturating_mul(self.draft.label_count())
@@ -81,12 +71,11 @@ impl<'a, V: ValueTest + Copy + Drop> Example<'a, V> {
         let count = validator.sweep(strata, table.as_mut_slice()).ok();
         assert_eq!(rt; count, Some(typing.len()), "the number of pairs");
         assert_eq!(rt; table.get(size).copied(), Some(MARK));
-        for place in 0..size {
+        for (place, byte) in table.iter().take(size).enumerate() {
             let (node, label) = self.pair(place);
-            let expected = among(typing, node, label);
-            let byte = table.get(place).copied();
+            let expected = typing.contains(&(node, label));
             let held = validator.held(node, label).ok();
-            assert_eq!(rt; byte, Some(u8::from(expected)), "sweep {node} {label}");
+            assert_eq!(rt; *byte, u8::from(expected), "sweep {node} {label}");
             assert_eq!(rt; held, Some(Some(expected)), "held {node} {label}");
         }
         Ok(())
@@ -98,7 +87,7 @@ impl<'a, V: ValueTest + Copy + Drop> Example<'a, V> {
         for place in 0..self.size() {
             let (node, label) = self.pair(place);
             let answer = validator.look(node, label).ok();
-            let expected = Some(among(typing, node, label));
+            let expected = Some(typing.contains(&(node, label)));
             assert_eq!(rt; answer, expected, "look {node} {label}");
         }
         Ok(())
@@ -111,7 +100,7 @@ impl<'a, V: ValueTest + Copy + Drop> Example<'a, V> {
             let (node, label) = self.pair(place);
             assert_eq!(rt; validator.held(node, label).ok(), Some(None));
             let answer = validator.look(node, label).ok();
-            let expected = among(typing, node, label);
+            let expected = typing.contains(&(node, label));
             assert_eq!(rt; answer, Some(expected), "look {node} {label} alone");
             assert_eq!(rt; validator.held(node, label).ok(), Some(Some(expected)));
         }
@@ -136,12 +125,9 @@ impl<'a, V: ValueTest + Copy + Drop> Example<'a, V> {
 
     // The typing as a table of bytes.
     fn bytes(&self, heap: Global, typing: &[(u16, u8)]) -> Result<Vec<u8>, AllocError> {
-        let mut bytes = Vec::new(heap);
-        for place in 0..self.size() {
-            let (node, label) = self.pair(place);
-            bytes.push(u8::from(among(typing, node, label)))?;
-        }
-        Ok(bytes)
+        (0..self.size())
+            .map(|place| u8::from(typing.contains(&self.pair(place))))
+            .collect(heap)
     }
 
     fn store(&self) -> Result<ChainStore, Fail> {
@@ -166,10 +152,12 @@ impl<'a, V: ValueTest + Copy + Drop> Example<'a, V> {
             values: &self.values,
             scratch: &mut scratch,
         };
-        let mut correct = true;
+        // A loop: the borrow checker does not cover the checker in a closure of `all`.
         for (node, label) in typing {
-            correct = correct && check.satisfies(bytes.as_slice(), *node, *label);
+            if !check.satisfies(bytes.as_slice(), *node, *label) {
+                return Ok(false);
+            }
         }
-        Ok(correct)
+        Ok(true)
     }
 }

@@ -131,12 +131,7 @@ fn held<V: ValueTest + Copy + Drop>(
     validator: &Validator<ChainStore, V>,
     node: u16,
 ) -> [Option<Option<bool>>; 4] {
-    [
-        validator.held(node, L1).ok(),
-        validator.held(node, L2).ok(),
-        validator.held(node, L3).ok(),
-        validator.held(node, TEXT).ok(),
-    ]
+    [L1, L2, L3, TEXT].map(|label| validator.held(node, label).ok())
 }
 
 // A look at N1 and L1 follows A to L2, B to the text, and the ring of L2 and L3; it holds nothing else.

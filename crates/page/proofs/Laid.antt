@@ -158,3 +158,12 @@ laid_more buffer half done arcs at i p o size e room here =
     ap (λ k. set (set (laid buffer half (done ++ take i arcs)) (at + i) p) k o) (omega arith)
     ∙ push
     ∙ ap (laid buffer half) (append_assoc done (take i arcs) ((p, o) ∷ []) ∙ ap (λ z. done ++ z) (sym (take_nth arcs i (p, o) here)))
+
+-- what is left from a place on
+pub left_some : (xs : List Arc) (i : ℕ) (a : Arc) (rest : List Arc) → drop i xs ≡ a ∷ rest → (slice_get xs i ≡ Some a) × (drop (i + 1) xs ≡ rest)
+left_some xs i a rest e =
+    let h : i < length xs = omega (arith, length-drop i xs, ap length e) in
+    let more : get_or xs i a ∷ drop (i + 1) xs ≡ a ∷ rest = sym (drop_more xs i a h) ∙ e in
+    let here : get_or xs i a ≡ a = cc in
+    let behind : drop (i + 1) xs ≡ rest = cc in
+    (slice_get-get_or xs i a h ∙ ap (λ (b : Arc). Some b) here, behind)

@@ -23,7 +23,7 @@ const TERMS: [Term; 2] = [
 ];
 
 // How many loads came out in each way.
-#[derive(Clone, Copy)]
+#[derive(Clone, Copy, Default)]
 struct Tally {
     loaded: usize,
     whole: usize,
@@ -110,12 +110,7 @@ fn change_two(
 
 #[test]
 fn changed_bytes(rt: HostRuntime) -> Result<(), Fail> {
-    let mut tally = Tally {
-        loaded: 0,
-        whole: 0,
-        fans: 0,
-        entries: 0,
-    };
+    let mut tally = Tally::default();
     for at in 0..11 {
         change_byte(&rt, rt.alloc(), PAGE, at, &mut tally)?;
         for value in [0, 1, 2, 200] {
@@ -132,12 +127,7 @@ fn changed_bytes(rt: HostRuntime) -> Result<(), Fail> {
 #[test]
 fn cut_pages(rt: HostRuntime) -> Result<(), Fail> {
     let longer = [3, 0, 2, 0, 1, 1, 2, 1, 1, 2, 0, 0, 0, 9];
-    let mut tally = Tally {
-        loaded: 0,
-        whole: 0,
-        fans: 0,
-        entries: 0,
-    };
+    let mut tally = Tally::default();
     for length in 0..15usize {
         load_twice(&rt, rt.alloc(), &longer[0..length.min(14)], &mut tally)?;
     }

@@ -25,12 +25,8 @@ const TRIPLES: [(u16, u8, u16); 6] = [
 ];
 
 fn facts(heap: Global, literals: &[u8; 4]) -> Result<Facts, AllocError> {
-    let mut known = Vec::new(heap);
-    for byte in literals {
-        known.push(*byte == 1)?;
-    }
     Ok(Facts {
-        literals: known,
+        literals: literals.iter().map(|byte| *byte == 1).collect(heap)?,
         passes: Vec::new(heap),
         tests: 0,
     })

@@ -40,20 +40,11 @@ fn fan(page: &[u8], node: u16) -> usize {
 }
 
 fn find_large_fan(page: &[u8], nodes: u16) -> Option<u16> {
-    for node in 0..nodes {
-        if fan(page, node) > 12 {
-            return Some(node);
-        }
-    }
-    None
+    (0..nodes).find(|node| fan(page, *node) > 12)
 }
 
 fn sum_fans(page: &[u8], nodes: u16) -> usize {
-    let mut sum = 0usize;
-    for node in 0..nodes {
-        sum = sum.saturating_add(fan(page, node));
-    }
-    sum
+    (0..nodes).fold(0usize, |sum, node| sum.saturating_add(fan(page, node)))
 }
 
 // The refusal of the page as a whole, if there is one.

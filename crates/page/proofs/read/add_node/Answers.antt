@@ -3,7 +3,7 @@ use Rattle.std.proofs.lemmas.Result.{err_from_is_err_and}
 use Rattle.validate.proofs.Keeping.{keeps_none, keeps_then}
 use Rattle.page.specs.Format.{Spo, of_node}
 use Rattle.page.specs.Loading.{Adds, none}
-use Rattle.page.specs.Reading.{Outcome, pairs}
+use Rattle.page.specs.Reading.{pairs}
 use Rattle.page.proofs.Adding.{adds_append, outcome_after}
 use Rattle.page.proofs.Rows.{drop_head, node_split, node_more, length_node}
 use Rattle.page.proofs.read.add_node.Goals as goal
