@@ -96,9 +96,8 @@ fn within(bytes: &[u8], labels: usize) -> bool {
 pub fn stratifies(references: &[Reference], labels: usize, bytes: &[u8]) -> bool {
     bytes.len() >= labels
         && within(bytes, labels)
-        && references
-            .iter()
-            .all(|reference| number(bytes, reference.from) >= lowest(bytes, *reference))
+        && references.iter().all(|reference| number(bytes, reference.from)
+            >= lowest(bytes, *reference))
 }
 
 // Raises each label that is too low for its references, once.

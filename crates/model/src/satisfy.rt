@@ -61,11 +61,9 @@ impl<'d, 'a> Node<'d, 'a> {
         if !chosen.is_power_of_two() {
             return false;
         }
-        self.arcs
-            .get(chosen.trailing_zeros() as usize)
-            .is_some_and(|(property, object)| {
-                properties.contains(*property) && self.typing.has(*object, label)
-            })
+        self.arcs.get(chosen.trailing_zeros() as usize).is_some_and(|(property, object)| {
+            properties.contains(*property) && self.typing.has(*object, label)
+        })
     }
 
     fn row_step(&self, row: u8, chosen: u16) -> Step {
