@@ -10,13 +10,14 @@ impl NodeArcs {
     pub fn of<S: Store>(store: &S, node: u16) -> NodeArcs
         ensures { arcs_of result ≡ S.Store.arcs store.now node }
     {
-        let count = store.fan(node);
         let mut arcs = [(0, 0); 12];
+        let mut fan = 0;
         for (place, arc) in Arcs::of(store, node).enumerate() {
             arcs[place] = arc;
+            fan = place + 1;
         }
         NodeArcs {
-            fan: Fan::new(usize::from(count)),
+            fan: Fan::new(fan),
             arcs,
         }
     }

@@ -59,10 +59,11 @@ fn write_node<S: Store>(store: &S, node: u16, arcs: &mut [u8], at: usize) -> usi
 {
     store.lawful();
     let total = usize::from(store.total());
-    let fan = store.fan(node);
+    let mut end = at;
     for (place, (property, object)) in Arcs::of(store, node).enumerate() {
         arcs[at + place] = property;
         arcs[total + at + place] = object as u8;
+        end = at + place + 1;
     }
-    at + usize::from(fan)
+    end
 }

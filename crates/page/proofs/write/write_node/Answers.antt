@@ -25,6 +25,7 @@ loop-place-preserved g c =
       callable = ((tt, tt, inl (omega (arith, counted, c.lawful.ensures.few c.args.node))), tt);
       left = sym here.1 ∙ ap (λ k. drop k arcs) (sym step.2);
       counted = counted;
+      ended = omega (arith, step.1, step.2);
       put = λ buffer done size e start.
           let inv = c.loop-place.invariant.put buffer done size e start in
           let put = laid_more buffer half done arcs c.args.at i c.in-Some.property c.in-Some.object (size ∙ c.requires.half) e c.requires.fits here.0 in

@@ -11,6 +11,7 @@ invariant-loop-place g l = record {
   callable : (goal.iterator-loop-place g).can_next l.place-iterator × (goal.iterator-loop-place g).is_finite l.place-iterator;
   left : arcs_left g.S.Store.arcs (enumerate_source l.place-iterator) ≡ drop (enumerate_count l.place-iterator) (g.S.Store.arcs l.store l.node);
   counted : enumerate_count l.place-iterator + length (arcs_left g.S.Store.arcs (enumerate_source l.place-iterator)) ≡ length (g.S.Store.arcs l.store l.node);
+  ended : l.end ≡ l.at + enumerate_count l.place-iterator;
   put : (buffer : List ℕ) (done : List Arc) → length buffer ≡ length l.initial.arcs → l.at ≡ length done
       → l.initial.arcs ≡ laid buffer (total (g.S.Store.nodes l.store) (g.S.Store.arcs l.store)) done
       → l.arcs ≡ laid buffer (total (g.S.Store.nodes l.store) (g.S.Store.arcs l.store)) (done ++ take (enumerate_count l.place-iterator) (g.S.Store.arcs l.store l.node));
