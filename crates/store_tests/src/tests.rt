@@ -2,6 +2,7 @@
 use crate::model::Model;
 use crate::runs::{fill_node, puts, t, takes, wander};
 use chain::ChainStore;
+use refusal::{Fault, Layer};
 use rows::RowStore;
 use std::process::Abort;
 use std::test::Fail;
@@ -31,6 +32,22 @@ fn node_counts(rt: HostRuntime) {
     ] {
         counts_nodes(&rt, &mut ChainStore::new(asked), made);
         counts_nodes(&rt, &mut RowStore::new(&mut rows, asked), made);
+    }
+}
+
+// The tables below have the faults themselves.
+#[test]
+fn faults_have_their_numbers(rt: HostRuntime) {
+    for (fault, number) in [
+        (StoreFault::NoSubject, 7),
+        (StoreFault::NoObject, 8),
+        (StoreFault::Present, 10),
+        (StoreFault::FullNode, 11),
+        (StoreFault::FullStore, 12),
+        (StoreFault::Absent, 13),
+    ] {
+        assert_eq!(rt; fault.number(), number);
+        assert_eq!(rt; fault.layer(), Layer::Store);
     }
 }
 
