@@ -35,11 +35,13 @@ impl<S: Store + Drop, V: ValueTest + Drop> Day<'_, S, V> {
     // Prints the calls of a list with their answers, and counts them.
     fn tell(&mut self, lines: &[Line], batch: &Batch, before: usize) -> anyhow::Result<()> {
         let labels = self.validator.schema().label_count();
+        let pairs = usize::from(self.validator.store().node_count()).saturating_mul(labels);
         let dropped = before.saturating_sub(count_held(&self.validator));
         let mut tables = batch.tables.as_slice();
         let calls = batch.calls.iter().zip(batch.answers.iter());
         for (line, (call, answer)) in lines.iter().zip(calls) {
             let (table, rest) = tables.split_at(usize::from(call.room()).min(tables.len()));
+            let table = &table[..pairs.min(table.len())];
             let told = told(self.rt.alloc(), *call, *answer, table, labels, dropped)?;
             self.tally.ask(told.is_err());
             tell(self.rt, line, Ok::<_, Trouble>(DayAnswer::Call(told)))?;
