@@ -14,19 +14,26 @@ mod store_calls;
 mod tally;
 
 use command::is_house;
-use script::{read_lines, read_script, run_house};
-use store_calls::Houses;
+use script::{read_line, read_script};
+use store_calls::run_lines;
 
+// The lines of one house are held at a time.
 fn read_and_run(rt: &HostRuntime) -> anyhow::Result<()> {
     let text = read_script(rt)?;
-    let lines = read_lines(rt.alloc(), text.as_str())?;
-    for (number, house) in lines.as_slice().split(is_house).enumerate() {
-        if number > 0 {
+    let mut house = Vec::new(rt.alloc());
+    for (index, line) in text.lines().enumerate() {
+        let Some(line) = read_line(index, line) else {
+            continue;
+        };
+        if is_house(&line) {
+            run_lines(rt, house.as_slice())?;
             println!(rt; "house: a new house")?;
+            house.clear();
+        } else {
+            house.push(line)?;
         }
-        run_house(rt, &Houses { rt }, house)?;
     }
-    Ok(())
+    run_lines(rt, house.as_slice())
 }
 
 fn main(rt: HostRuntime) -> anyhow::Result<()> {

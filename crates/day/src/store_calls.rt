@@ -1,10 +1,12 @@
-// The lines of a house between its description and its day.
+// The lines of a house up to its day.
 use crate::answer::DayAnswer;
 use crate::command::{DayCommand, Line};
 use crate::day::run_day;
 use crate::failure::{FileFailure, Trouble};
 use crate::pages::answer_page;
-use script::{CarryOut, Command, Description, OpenHouse, OverStore, Session, carry_out_all, list};
+use script::{
+    CarryOut, Command, Description, OpenHouse, OverStore, Session, carry_out_all, list, run_house,
+};
 use triple::Store;
 use values::{TermTable, ValueTest};
 
@@ -52,24 +54,27 @@ fn run_store<'s, 'l, 't, 'a, S: Store, V: ValueTest>(
 
 // What a day does over a store: the calls on it, and then those on a validator, if there are any.
 #[derive(Drop)]
-pub struct Houses<'r> {
-    pub rt: &'r HostRuntime,
+struct Calls<'r, 'l, 't, 'a> {
+    rt: &'r HostRuntime,
+    lines: &'l [Line<'t, 'a>],
 }
 
-impl<'a> OverStore<DayCommand<'a>> for Houses<'_> {
-    fn run_over<S: Store + Drop>(
-        &self,
-        store: S,
-        house: &mut Description,
-        lines: &[Line<'_, 'a>],
-    ) -> anyhow::Result<()> {
+impl OverStore for Calls<'_, '_, '_, '_> {
+    fn run_over<S: Store + Drop>(&self, store: S, house: &mut Description) -> anyhow::Result<()> {
         let mut store = store;
         let values = TermTable::new(house.terms.as_slice(), house.tests.as_slice());
-        let rest = run_store(self.rt, &mut store, &values, &mut house.session, lines)?;
+        let rest = run_store(self.rt, &mut store, &values, &mut house.session, self.lines)?;
         if rest.is_empty() {
             list(self.rt, &store)
         } else {
             run_day(self.rt, store, values, &mut house.session, rest)
         }
     }
+}
+
+// Carries out the lines of one house, its description first.
+pub fn run_lines(rt: &HostRuntime, lines: &[Line]) -> anyhow::Result<()> {
+    let mut house = Description::new(rt.alloc());
+    let lines = carry_out_all(rt, &mut house, lines)?;
+    run_house(rt, &Calls { rt, lines }, &mut house)
 }

@@ -2,53 +2,55 @@
 #![tactic(auto)]
 
 use script::{
-    Description, Line, OpenHouse, OverStore, Session, carry_out_all, list, read_lines, read_script,
-    run_house,
+    Description, OpenHouse, OverStore, Session, carry_out_text, list, read_script, run_house,
 };
 use std::convert::Infallible;
 use triple::Store;
 use values::{TermTable, ValueTest};
 
-// What is done over a store: the calls, and at the end the store is listed.
+// What is done over a store: the calls, of which there may be none, and at the end the store is listed.
 #[derive(Drop)]
-struct Calls<'r> {
+struct Calls<'r, 'a> {
     rt: &'r HostRuntime,
+    text: &'a str,
+    first: Option<usize>,
 }
 
-impl OverStore<Infallible> for Calls<'_> {
-    fn run_over<S: Store + Drop>(
-        &self,
-        store: S,
-        house: &mut Description,
-        lines: &[Line<Infallible>],
-    ) -> anyhow::Result<()> {
+impl OverStore for Calls<'_, '_> {
+    fn run_over<S: Store + Drop>(&self, store: S, house: &mut Description) -> anyhow::Result<()> {
         let mut store = store;
         let values = TermTable::new(house.terms.as_slice(), house.tests.as_slice());
-        run_calls(self.rt, &mut store, &values, &mut house.session, lines)?;
+        self.run_calls(&mut store, &values, &mut house.session)?;
         list(self.rt, &store)
     }
 }
 
-fn run_calls<S: Store, V: ValueTest>(
-    rt: &HostRuntime,
-    store: &mut S,
-    values: &V,
-    session: &mut Session,
-    lines: &[Line<Infallible>],
-) -> anyhow::Result<()> {
-    let mut open = OpenHouse {
-        store,
-        values,
-        session,
-    };
-    carry_out_all(rt, &mut open, lines)?;
-    Ok(())
+impl Calls<'_, '_> {
+    fn run_calls<S: Store, V: ValueTest>(
+        &self,
+        store: &mut S,
+        values: &V,
+        session: &mut Session,
+    ) -> anyhow::Result<()> {
+        let Some(first) = self.first else {
+            return Ok(());
+        };
+        let mut open = OpenHouse {
+            store,
+            values,
+            session,
+        };
+        carry_out_text(self.rt, &mut open, self.text, first)?;
+        Ok(())
+    }
 }
 
 fn read_and_run(rt: &HostRuntime) -> anyhow::Result<()> {
     let text = read_script(rt)?;
-    let lines = read_lines(rt.alloc(), text.as_str())?;
-    run_house(rt, &Calls { rt }, lines.as_slice())
+    let text = text.as_str();
+    let mut house = Description::new(rt.alloc());
+    let first = carry_out_text::<_, Infallible, _>(rt, &mut house, text, 0)?;
+    run_house(rt, &Calls { rt, text, first }, &mut house)
 }
 
 fn main(rt: HostRuntime) -> anyhow::Result<()> {

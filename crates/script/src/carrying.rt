@@ -1,7 +1,7 @@
 // Lines of a script, carried out one after the other.
-use crate::command::{Command, StoreKind};
+use crate::command::{Command, OwnCommand, StoreKind};
 use crate::description::Description;
-use crate::line::Line;
+use crate::line::{Line, read_line};
 use crate::telling::tell;
 use crate::trouble::Trouble;
 use chain::ChainStore;
@@ -22,6 +22,23 @@ pub trait CarryOut<O> {
     ) -> Option<Result<Self::Answer, Trouble<Self::Failure>>>;
 }
 
+// Whether the line is carried out; one that is left prints nothing.
+fn carry_out_line<R: Print, O: Copy, C: CarryOut<O>>(
+    rt: &R,
+    to: &mut C,
+    line: &Line<O>,
+) -> anyhow::Result<bool> {
+    let result = match line.command {
+        Ok(command) => match to.carry_out(command) {
+            Some(result) => result,
+            None => return Ok(false),
+        },
+        Err(expected) => Err(Trouble::Unreadable(expected)),
+    };
+    tell(rt, line, result)?;
+    Ok(true)
+}
+
 // Answers the lines from the first that is left on.
 pub fn carry_out_all<'l, 'a, R: Print, O: Copy, C: CarryOut<O>>(
     rt: &R,
@@ -29,44 +46,48 @@ pub fn carry_out_all<'l, 'a, R: Print, O: Copy, C: CarryOut<O>>(
     lines: &'l [Line<'a, O>],
 ) -> anyhow::Result<&'l [Line<'a, O>]> {
     for (index, line) in lines.iter().enumerate() {
-        let result = match line.command {
-            Ok(command) => match to.carry_out(command) {
-                Some(result) => result,
-                None => return Ok(&lines[index..]),
-            },
-            Err(expected) => Err(Trouble::Unreadable(expected)),
-        };
-        tell(rt, line, result)?;
+        if !carry_out_line(rt, to, line)? {
+            return Ok(&lines[index..]);
+        }
     }
     Ok(&[])
 }
 
-// What a program does with a house once it is described.
-pub trait OverStore<O> {
-    // Carries out the lines behind the description over the house's store, which is still empty.
-    fn run_over<S: Store + Drop>(
-        &self,
-        store: S,
-        house: &mut Description,
-        lines: &[Line<O>],
-    ) -> anyhow::Result<()>;
+// Passes over so many lines, reads each of the others when it is carried out, and answers how many come before the
+// first that is left.
+pub fn carry_out_text<'a, R: Print, O: OwnCommand<'a>, C: CarryOut<O>>(
+    rt: &R,
+    to: &mut C,
+    text: &'a str,
+    passed: usize,
+) -> anyhow::Result<Option<usize>> {
+    for (index, line) in text.lines().enumerate().skip(passed) {
+        if let Some(line) = read_line::<O>(index, line)
+            && !carry_out_line(rt, to, &line)?
+        {
+            return Ok(Some(index));
+        }
+    }
+    Ok(None)
 }
 
-// Carries out the lines of one house, its description first.
-pub fn run_house<R: Print + AllocGlobal, O: Copy, P: OverStore<O>>(
+// What a program does with a house once it is described.
+pub trait OverStore {
+    // Carries out the lines behind the description over the house's store, which is still empty.
+    fn run_over<S: Store + Drop>(&self, store: S, house: &mut Description) -> anyhow::Result<()>;
+}
+
+// Makes the store of a house that is described, and does over it what the program does.
+pub fn run_house<R: AllocGlobal, P: OverStore>(
     rt: &R,
     program: &P,
-    lines: &[Line<O>],
+    house: &mut Description,
 ) -> anyhow::Result<()> {
-    let heap = rt.alloc();
-    let mut house = Description::new(heap);
-    let rest = carry_out_all(rt, &mut house, lines)?;
     match house.store.unwrap_or(StoreKind::Chain(0)) {
-        StoreKind::Chain(nodes) => program.run_over(ChainStore::new(nodes), &mut house, rest),
+        StoreKind::Chain(nodes) => program.run_over(ChainStore::new(nodes), house),
         StoreKind::Rows(nodes, count) => {
-            let mut rows = vec![in heap; None; usize::from(count)]?;
-            let store = RowStore::new(rows.as_mut_slice(), nodes);
-            program.run_over(store, &mut house, rest)
+            let mut rows = vec![in rt.alloc(); None; usize::from(count)]?;
+            program.run_over(RowStore::new(rows.as_mut_slice(), nodes), house)
         }
     }
 }

@@ -21,7 +21,7 @@ mod view;
 mod words;
 
 pub use answer::{Answer, Refused};
-pub use carrying::{CarryOut, OverStore, carry_out_all, run_house};
+pub use carrying::{CarryOut, OverStore, carry_out_all, carry_out_text, run_house};
 pub use command::{Command, Edit, OwnCommand, StoreKind};
 pub use description::{Description, Session};
 pub use draft_lines::DraftLine;
@@ -29,7 +29,7 @@ pub use drafting::Drafting;
 pub use expected::Expected;
 pub use input::read_script;
 pub use joined::Joined;
-pub use line::{Line, read_lines};
+pub use line::{Line, read_line};
 pub use open_house::OpenHouse;
 pub use question::Question;
 pub use telling::{list, tell};

@@ -1,7 +1,6 @@
 // A script as lines, each read into what it asks for.
 use crate::command::{Command, OwnCommand, read_command};
 use crate::expected::Expected;
-use std::alloc::{AllocError, Global};
 
 // A line that is not blank, with its number in the script, from 1, and without its comment.
 #[derive(Clone, Copy)]
@@ -17,7 +16,7 @@ fn uncommented(line: &str) -> &str {
 }
 
 // The line, or nothing where it is blank.
-fn read_line<'a, O: OwnCommand<'a>>(index: usize, line: &'a str) -> Option<Line<'a, O>> {
+pub fn read_line<'a, O: OwnCommand<'a>>(index: usize, line: &'a str) -> Option<Line<'a, O>> {
     let text = uncommented(line);
     let command = read_command(text).transpose()?;
     Some(Line {
@@ -25,18 +24,4 @@ fn read_line<'a, O: OwnCommand<'a>>(index: usize, line: &'a str) -> Option<Line<
         text,
         command,
     })
-}
-
-pub fn read_lines<'a, O: OwnCommand<'a>>(
-    heap: Global,
-    text: &'a str,
-) -> Result<Vec<Line<'a, O>>, AllocError> {
-    // A loop: a closure is not proved that calls by a bound with a lifetime.
-    let mut lines = Vec::new(heap);
-    for (index, line) in text.lines().enumerate() {
-        if let Some(line) = read_line(index, line) {
-            lines.push(line)?;
-        }
-    }
-    Ok(lines)
 }
