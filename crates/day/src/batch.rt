@@ -3,13 +3,9 @@ use crate::call_answer::{CallAnswer, Refusal};
 use crate::call_lines::{CallLine, SweepLine};
 use crate::command::{Line, call_on};
 use replay::{Answer, Call, Sweep, replay};
-use runs::run;
 use schema::Schema;
 use std::alloc::{AllocError, Global};
-use triple::Store;
 use validate::Validate;
-use validator::Validator;
-use values::ValueTest;
 
 // The calls with a place for each answer, and the tables of the sweeps one after the other: a run of a list takes
 // the three side by side.
@@ -98,25 +94,6 @@ impl Batch {
             self.tables.as_mut_slice(),
         )?;
         Ok(())
-    }
-
-    // Makes the validator, and runs the list on it.
-    pub fn run_first<S: Store + Drop, V: ValueTest + Drop>(
-        &mut self,
-        schema: Schema,
-        store: S,
-        values: V,
-    ) -> anyhow::Result<Validator<S, V>> {
-        let (validator, ran) = run(
-            schema,
-            store,
-            values,
-            self.calls.as_slice(),
-            self.answers.as_mut_slice(),
-            self.tables.as_mut_slice(),
-        );
-        ran?;
-        Ok(validator)
     }
 }
 

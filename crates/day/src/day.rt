@@ -5,6 +5,7 @@ use crate::command::{DayCommand, Line, call_on};
 use crate::failure::{FileFailure, Trouble};
 use crate::pages::{PageAnswer, answer_page, load_file};
 use crate::tally::{Tally, count_held};
+use runs::run;
 use script::{
     Answer, CarryOut, Command, Expected, Question, Session, Typing, View, carry_out_all, list, tell,
 };
@@ -17,7 +18,7 @@ use values::ValueTest;
 #[derive(Drop)]
 struct Day<'a, S: Store + Drop, V: ValueTest + Drop> {
     rt: &'a HostRuntime,
-    validator: Validator<S, V>,
+    validator: &'a mut Validator<S, V>,
     session: &'a mut Session,
     tally: Tally,
 }
@@ -26,17 +27,17 @@ impl<S: Store + Drop, V: ValueTest + Drop> Day<'_, S, V> {
     // Makes the calls of one list.
     fn run_list(&mut self, lines: &[Line]) -> anyhow::Result<()> {
         let nodes = self.validator.store().node_count();
-        let before = count_held(&self.validator);
+        let before = count_held(self.validator);
         let mut batch = Batch::new(self.rt.alloc(), lines, self.validator.schema(), nodes)?;
-        batch.run_on(&mut self.validator)?;
-        self.tell(lines, &batch, before)
+        batch.run_on(self.validator)?;
+        let dropped = before.saturating_sub(count_held(self.validator));
+        self.tell(lines, &batch, dropped)
     }
 
     // Prints the calls of a list with their answers, and counts them.
-    fn tell(&mut self, lines: &[Line], batch: &Batch, before: usize) -> anyhow::Result<()> {
+    fn tell(&mut self, lines: &[Line], batch: &Batch, dropped: usize) -> anyhow::Result<()> {
         let labels = self.validator.schema().label_count();
         let pairs = usize::from(self.validator.store().node_count()).saturating_mul(labels);
-        let dropped = before.saturating_sub(count_held(&self.validator));
         let mut tables = batch.tables.as_slice();
         let calls = batch.calls.iter().zip(batch.answers.iter());
         for (line, (call, answer)) in lines.iter().zip(calls) {
@@ -52,10 +53,10 @@ impl<S: Store + Drop, V: ValueTest + Drop> Day<'_, S, V> {
     }
 
     fn load(&mut self, path: &str) -> Result<PageAnswer, Trouble> {
-        let before = count_held(&self.validator);
-        let result = load_file(self.rt, &mut self.validator, path)?;
+        let before = count_held(self.validator);
+        let result = load_file(self.rt, self.validator, path)?;
         self.tally.ask(result.is_err());
-        let after = count_held(&self.validator);
+        let after = count_held(self.validator);
         self.tally.lose(before.saturating_sub(after));
         Ok(PageAnswer::Loaded(result))
     }
@@ -65,7 +66,7 @@ impl<S: Store + Drop, V: ValueTest + Drop> Day<'_, S, V> {
             Command::Draft(line) => DayAnswer::Common(self.session.drafting.perform(line)?),
             Command::Question(question) => DayAnswer::Common(ask(
                 self.rt.alloc(),
-                &self.validator,
+                self.validator,
                 &mut self.session.typing,
                 question,
             )?),
@@ -81,7 +82,7 @@ impl<S: Store + Drop, V: ValueTest + Drop> Day<'_, S, V> {
     fn summarize(&self) -> anyhow::Result<()> {
         let rt = self.rt;
         let tally = self.tally;
-        let held = count_held(&self.validator);
+        let held = count_held(self.validator);
         let dropped = tally.dropped;
         println!(rt; "calls: {tally}; {held} verdicts held, {dropped} dropped")?;
         list(rt, self.validator.store())
@@ -134,9 +135,19 @@ pub fn run_day<S: Store + Drop, V: ValueTest + Drop>(
         .unwrap_or(&[]);
     let schema = session.drafting.take_schema();
     let mut batch = Batch::new(rt.alloc(), first, &schema, store.node_count())?;
+    // The day borrows the validator, which is large, and does not move it.
+    let (mut validator, done) = run(
+        schema,
+        store,
+        values,
+        batch.calls.as_slice(),
+        batch.answers.as_mut_slice(),
+        batch.tables.as_mut_slice(),
+    );
+    done?;
     let mut day = Day {
         rt,
-        validator: batch.run_first(schema, store, values)?,
+        validator: &mut validator,
         session,
         tally: Tally::default(),
     };

@@ -30,8 +30,9 @@ impl fmt::Display for Tally {
 
 // How many verdicts of one node are held; a schema has at most 32 labels.
 fn count_held_of<A: Validate>(validator: &A, node: u16) -> usize {
-    let held = |label: &u8| matches!(validator.held(node, *label), Ok(Some(_)));
-    (0..32u8).filter(held).count()
+    let held = |label| usize::from(matches!(validator.held(node, label), Ok(Some(_))));
+    let counts = (0..32u8).take(validator.label_count()).map(held);
+    counts.fold(0usize, |sum, count| sum.saturating_add(count))
 }
 
 pub fn count_held<A: Validate>(validator: &A) -> usize {

@@ -28,7 +28,7 @@ pub use draft_lines::DraftLine;
 pub use drafting::Drafting;
 pub use expected::Expected;
 pub use input::read_script;
-pub use joined::Joined;
+pub use joined::{Item, Joined};
 pub use line::{Line, read_line};
 pub use open_house::OpenHouse;
 pub use question::Question;
