@@ -15,12 +15,13 @@ impl ChainStore {
         ensures nodes { result.nodes ≡ min nodes 256 }
         ensures empty { (n : ℕ) → arcs_of result.chains result.cells n ≡ [] }
     {
-        let free: [u16; 512] = array::from_fn(|cell| cell as u16);
+        let numbers: [u16; 512] = array::from_fn(|cell| cell as u16);
+        let free = ArrayVec::from(numbers);
         ChainStore {
             nodes: nodes.min(MAX_NODES),
             chains: [Chain::default(); 256],
             cells: [Cell::default(); 512],
-            free: ArrayVec::from(free),
+            free,
         }
     }
 

@@ -17,8 +17,8 @@ pub invariant_of-result : goal.invariant_of-result
 invariant_of-result c =
     let cells = replicate 512 c.default-2.result in
     let fan = c.default.ensures.1 in
-    let long : length c.from.result.items ≡ 512 = c.from.ensures.1 in
-    let numbered : (k : ℕ) → k < 512 → get_or c.from.result.items k 0 ≡ k = λ k h. rw c.from.ensures.0 (let at = (c.from_fn-free.ensures.items.at k 0 h).2 in search rules) in
+    let long : length c.from-free.result.items ≡ 512 = c.from-free.ensures.1 in
+    let numbered : (k : ℕ) → k < 512 → get_or c.from-free.result.items k 0 ≡ k = λ k h. rw c.from-free.ensures.0 (let at = (c.from_fn-numbers.ensures.items.at k 0 h).2 in search rules) in
     record {
       small = omega arith;
       counted = omega (arith, total_none _ c.min.result (none c.default.result cells fan));
