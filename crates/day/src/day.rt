@@ -16,14 +16,14 @@ use validator::Validator;
 use values::ValueTest;
 
 #[derive(Drop)]
-struct Day<'a, S: Store + Drop, V: ValueTest + Drop> {
-    rt: &'a HostRuntime,
-    validator: &'a mut Validator<S, V>,
-    session: &'a mut Session,
+struct Day<'r, 'v, 's, S: Store + Drop, V: ValueTest + Drop> {
+    rt: &'r HostRuntime,
+    validator: &'v mut Validator<S, V>,
+    session: &'s mut Session,
     tally: Tally,
 }
 
-impl<S: Store + Drop, V: ValueTest + Drop> Day<'_, S, V> {
+impl<S: Store + Drop, V: ValueTest + Drop> Day<'_, '_, '_, S, V> {
     // Makes the calls of one list.
     fn run_list(&mut self, lines: &[Line]) -> anyhow::Result<()> {
         let nodes = self.validator.store().node_count();
@@ -105,7 +105,7 @@ fn ask<S: Store + Drop, V: ValueTest + Drop>(
 }
 
 // A call is left: it is made in a list.
-impl<'a, S: Store + Drop, V: ValueTest + Drop> CarryOut<DayCommand<'a>> for Day<'_, S, V> {
+impl<'a, S: Store + Drop, V: ValueTest + Drop> CarryOut<DayCommand<'a>> for Day<'_, '_, '_, S, V> {
     type Answer = DayAnswer;
 
     type Failure = FileFailure;
