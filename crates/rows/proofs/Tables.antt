@@ -1,7 +1,7 @@
 -- Tables of rows of which one is filled or freed, and the rows that a store uses. Assumes nothing.
-use Rattle.std.proofs.Common.{◌≡◌, ℕ, zero, suc, ◌<◌, ◌≤◌, min, Bool, true, false, cond, ◌&&◌, ◌||◌, eqb, List, [], ◌∷◌, ◌++◌, length, get_or, take, drop, set, replicate, is_some, Some, None, Option, sym, refl, ap, ◌∙◌, ⊎_elim, arith, Contains}
+use Rattle.std.proofs.Common.{◌≡◌, ℕ, zero, suc, ◌<◌, ◌≤◌, min, true, false, cond, eqb, ◌+◌, ◌%◌, ◌^◌, List, [], ◌∷◌, ◌++◌, length, get_or, take, drop, set, replicate, is_some, Some, None, Option, sym, refl, ap, ◌∙◌, ⊎_elim, arith, Contains, MatchOption}
 use lib.Seq.{take-set-lt}
-use Rattle.std.specs.List.{list_any}
+use Rattle.std.specs.List.{fold, cons_option}
 use Rattle.std.proofs.lemmas.List.{take_all, drop_all, take_at, drop_at, append-nil, set_split, set-get_or, length-set, length-take, length-drop, length-append, length-replicate, nil_from_length}
 use Rattle.std.proofs.lemmas.List.Elements.{filter_map-append}
 use Rattle.std.proofs.lemmas.List.Sums.{sum_by-cons, sum_by-set, count_by-le-length}
@@ -13,7 +13,7 @@ use Rattle.triple.proofs.Changes.{same_true, total_none}
 use Rattle.triple.proofs.Totals.{total_more}
 use Rattle.rows.specs.declared.store.RowStore.{RowStore}
 use Rattle.rows.specs.Table.{full, free, arc_of, used, arcs_in, arcs_of}
-use Rattle.rows.proofs.Gains.{Gains}
+use Rattle.rows.proofs.Gains.{Gains, gains_present}
 
 -- the arcs where a row is set
 
@@ -86,15 +86,12 @@ none_has (Some t ∷ rows) s p o none =
     held : (t : Triple) → t.subject ≡ s → ◌≡◌ {A = Arc} (t.property, t.object) (p, o) → Some t ≡ full s p o
     held t e q = ap (λ x. full x t.property t.object) e ∙ ap (λ (a : Arc). full s a.0 a.1) q
 
-pub any_has : (alike : Option Triple → Bool) (s p o : ℕ) → alike None ≡ false → ((t : Triple) → alike (Some t) ≡ (eqb t.subject s && same (t.property, t.object) p o))
-    → (rows : List (Option Triple)) → list_any alike rows ≡ has p o (arcs_in s rows)
-any_has alike s p o none some [] = refl
-any_has alike s p o none some (None ∷ rows) = rw none (any_has alike s p o none some rows)
-any_has alike s p o none some (Some t ∷ rows) =
-    ⊎_elim
-    (λ (e : eqb t.subject s ≡ true). rw (some t, e) (ap (λ b. same (t.property, t.object) p o || b) (any_has alike s p o none some rows)))
-    (λ (e : eqb t.subject s ≡ false). rw (some t, e) (any_has alike s p o none some rows))
-    (cases_Bool (eqb t.subject s))
+-- what a search for a row says of its triple
+pub found_present : (rows : List (Option Triple)) (s p o : ℕ) (found : Option ℕ)
+    → MatchOption found (¬ Contains (take 1024 rows) (full s p o)) (λ i. (i < length (take 1024 rows)) × (get_or (take 1024 rows) i free ≡ full s p o))
+    → is_some found ≡ has p o (arcs_of rows s)
+found_present rows s p o None none = sym (none_has (take 1024 rows) s p o none)
+found_present rows s p o (Some i) (l, e) = sym (gains_present _ _ s p o (take_gains rows i s p o l e))
 
 pub none_free : (rows : List (Option Triple)) → ¬ Contains rows free → used rows ≡ length rows
 none_free [] none = refl
@@ -102,6 +99,29 @@ none_free (None ∷ rows) none = absurd (none (0, omega arith, refl))
 none_free (Some t ∷ rows) none = omega (arith, sum_by-cons (λ row. cond (is_some row) 1 0) (Some t) rows, none_free rows (later (Some t) free rows none))
 
 -- how many rows hold a triple
+
+length_cons : (arc : Option Arc) (arcs : List Arc) → length (cons_option arc arcs) ≡ cond (is_some arc) 1 0 + length arcs
+length_cons None arcs = omega arith
+length_cons (Some arc) arcs = omega arith
+
+-- the arcs of a node, counted row by row in a number that could wrap
+counted_from : (n : ℕ) (rows : List (Option Triple)) (a : ℕ) → a + length rows < 2 ^ 64
+    → fold (λ a row. cond (is_some (arc_of n row)) ((a + 1) % 2 ^ 64) a) a rows ≡ a + length (arcs_in n rows)
+counted_from n [] a l = omega arith
+counted_from n (row ∷ rows) a l =
+    ⊎_elim
+    (λ (e : is_some (arc_of n row) ≡ true). rw e (let small : (a + 1) % 2 ^ 64 ≡ a + 1 = omega arith in rw small (omega (arith, counted_from n rows (a + 1) (omega arith), longer e))))
+    (λ (e : is_some (arc_of n row) ≡ false). rw e (omega (arith, counted_from n rows a (omega arith), same_length e)))
+    (cases_Bool (is_some (arc_of n row)))
+  where
+    longer : is_some (arc_of n row) ≡ true → length (arcs_in n (row ∷ rows)) ≡ 1 + length (arcs_in n rows)
+    longer e = length_cons (arc_of n row) (arcs_in n rows) ∙ rw e refl
+
+    same_length : is_some (arc_of n row) ≡ false → length (arcs_in n (row ∷ rows)) ≡ length (arcs_in n rows)
+    same_length e = length_cons (arc_of n row) (arcs_in n rows) ∙ rw e (omega arith)
+
+pub arcs_counted : (n : ℕ) (rows : List (Option Triple)) → length rows < 2 ^ 64 → fold (λ a row. cond (is_some (arc_of n row)) ((a + 1) % 2 ^ 64) a) 0 rows ≡ length (arcs_in n rows)
+arcs_counted n rows l = omega (arith, counted_from n rows 0 (omega arith))
 
 -- each triple has a subject below the node count, so the triples are the arcs of the nodes
 pub used_total : (nodes : ℕ) (rows : List (Option Triple)) → ((n : ℕ) → nodes ≤ n → length (arcs_in n rows) ≡ 0) → used rows ≡ total nodes (λ n. arcs_in n rows)

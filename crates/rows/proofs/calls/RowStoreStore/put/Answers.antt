@@ -1,4 +1,4 @@
-use Rattle.std.proofs.Common.{◌≡◌, ◌<◌, min, length, take, set, sym, refl, ap, ◌∙◌, arith}
+use Rattle.std.proofs.Common.{◌≡◌, ◌<◌, min, length, take, set, sym, refl, ap, ◌∙◌, true≢false, arith}
 use Rattle.std.proofs.lemmas.List.{length-set, drop-set-lt}
 use Rattle.std.proofs.lemmas.Bool.{lt-leb, eq-eqb, ne_eqb}
 use Rattle.triple.proofs.Refusals.{nodes_below}
@@ -14,7 +14,7 @@ returns-in_default c =
     let m = c.args.self.now in
     let nodes = nodes_below c.args.self.now.nodes c.args.triple.subject c.args.triple.object c.in_ok-check_nodes.ensures in
     let absent = sym c.is_present.ensures ∙ c.if-is_present.false in
-    let unfilled = ne_eqb _ _ (λ e. c.if-fan-eq-MAX_FAN.false (c.fan.ensures ∙ e)) in
+    let unfilled = sym c.is_node_full.ensures ∙ c.if-is_node_full.false in
     let full_store = eq-eqb _ _ (sym (used_total m.nodes (take 1024 m.rows.now) m.past) ∙ none_free _ c.in_default.ensures ∙ length_front m.rows.now) in
     record { answer = simp (lt-leb _ _ nodes.0, lt-leb _ _ nodes.1, absent, unfilled, full_store) refl; change = refl; kept = (refl, refl); held = refl; same = refl }
 
@@ -36,7 +36,7 @@ after : (c : In-Some) → Lawful c.args.self.now.nodes (min (length c.args.self.
 after c =
     let nodes = nodes_below c.args.self.now.nodes c.args.triple.subject c.args.triple.object c.in_ok-check_nodes.ensures in
     lawful_more _ _ c.args.triple.subject c.args.triple.property c.args.triple.object (gains c) _ _ nodes.0 (lawful_in c.args.self.now)
-    (omega arith) nodes.1 (sym c.is_present.ensures ∙ c.if-is_present.false) (λ e. c.if-fan-eq-MAX_FAN.false (c.fan.ensures ∙ e)) (vacant c)
+    (omega arith) nodes.1 (sym c.is_present.ensures ∙ c.if-is_present.false) (λ e. true≢false (sym (eq-eqb _ _ e) ∙ sym c.is_node_full.ensures ∙ c.if-is_node_full.false)) (vacant c)
 
 pub offset_bounds-self-row : goal.offset_bounds-self-row
 offset_bounds-self-row c = omega (arith, below (goal.at.offset_bounds-self-row c).In-Some)
@@ -57,7 +57,7 @@ returns c =
     let t = c.args.triple in
     let nodes = nodes_below c.args.self.now.nodes c.args.triple.subject c.args.triple.object c.in_ok-check_nodes.ensures in
     let absent = sym c.is_present.ensures ∙ c.if-is_present.false in
-    let unfilled = ne_eqb _ _ (λ e. c.if-fan-eq-MAX_FAN.false (c.fan.ensures ∙ e)) in
+    let unfilled = sym c.is_node_full.ensures ∙ c.if-is_node_full.false in
     record {
       answer = simp (lt-leb _ _ nodes.0, lt-leb _ _ nodes.1, absent, unfilled, ne_eqb _ _ (vacant at)) refl;
       change = gains_added _ _ t.subject t.property t.object (gains at);
