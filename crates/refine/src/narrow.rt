@@ -9,13 +9,13 @@ use crate::write::write_where;
 
 const MAX_NODES: usize = triple::MAX_NODES as usize;
 
-// Marks every node that has an arc to the object.
+// Marks every node that has an arc to the object; one that is marked already is not asked.
 fn mark_leading<C: NodeCheck>(check: &C, object: u16, marks: &mut [bool; MAX_NODES])
     ensures { Marked (λ n. (p : ℕ) × Member (p, object) ((C.NodeCheck.graph check.now).arcs n)) (C.NodeCheck.graph check.now).nodes marks.old marks.new }
 {
     let nodes = usize::from(check.node_count());
-    write_where(&mut marks[..nodes], true, |node, _| {
-        check.leads_to(node as u16, object)
+    write_where(&mut marks[..nodes], true, |node, marked| {
+        marked || check.leads_to(node as u16, object)
     });
 }
 
