@@ -4,7 +4,7 @@ ghost use Rattle.hoods.specs.Arcs.{arcs_of};
 
 use crate::arcs::NodeArcs;
 use masks::Fan;
-use triple::{Arcs, Store};
+use triple::{CountedArcs, Store};
 
 impl NodeArcs {
     pub fn of<S: Store>(store: &S, node: u16) -> NodeArcs
@@ -12,7 +12,7 @@ impl NodeArcs {
     {
         let mut arcs = [(0, 0); 12];
         let mut fan = 0;
-        for (place, arc) in Arcs::of(store, node).enumerate() {
+        for (place, arc) in CountedArcs::of(store, node).enumerate() {
             arcs[place] = arc;
             fan = place + 1;
         }

@@ -16,7 +16,7 @@ use crate::pairs::Pairs;
 use labels::LabelSet;
 use stack::{Goal, Stack};
 use tables::LawfulTables;
-use triple::{Arcs, Store};
+use triple::{CountedArcs, Store};
 
 // The pairs that were marked, none of them held, and those that wait for their visit.
 // The stack is borrowed, since a lent slice beside a field that itself holds a lent slice is lost to the lender's proof.
@@ -99,7 +99,7 @@ impl<'a, 'b> Search<'a, 'b> {
     {
         tables.lawful();
         store.lawful();
-        for (property, object) in Arcs::of(store, pair.node) {
+        for (property, object) in CountedArcs::of(store, pair.node) {
             self.mark_labels(object, admitted(tables, pair.label, property));
         }
     }

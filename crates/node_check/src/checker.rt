@@ -10,7 +10,7 @@ use crate::shape::shape_rows;
 use hoods::{Neighbourhood, NodeArcs, Scratch};
 use refine::NodeCheck;
 use tables::LawfulTables;
-use triple::{Arcs, Store};
+use triple::{CountedArcs, Store};
 use values::ValueTest;
 
 // What a call leaves as it was stands in each `kept`: it speaks of two states, so no type can hold it.
@@ -96,6 +96,6 @@ impl<'a, S: Store, V: ValueTest> NodeCheck for Checker<'a, S, V> {
     }
 
     fn leads_to(&self, node: u16, object: u16) -> bool {
-        Arcs::of(self.store, node).any(|(_, found)| found == object)
+        CountedArcs::of(self.store, node).any(|(_, found)| found == object)
     }
 }

@@ -7,7 +7,7 @@ ghost use Rattle.page.specs.Format.{fans_of, arcs_of, properties_of, objects_of,
 ghost use Rattle.page.specs.Laying.{laid};
 
 use crate::fault::PageFault;
-use triple::{Arcs, Store};
+use triple::{CountedArcs, Store};
 
 // Writes the page of the store at the start of the buffer, and answers its length.
 pub fn save<S: Store>(store: &S, page: &mut [u8]) -> Result<usize, PageFault>
@@ -60,7 +60,7 @@ fn write_node<S: Store>(store: &S, node: u16, arcs: &mut [u8], at: usize) -> usi
     store.lawful();
     let total = usize::from(store.total());
     let mut end = at;
-    for (place, (property, object)) in Arcs::of(store, node).enumerate() {
+    for (place, (property, object)) in CountedArcs::of(store, node).enumerate() {
         arcs[at + place] = property;
         arcs[total + at + place] = object as u8;
         end = at + place + 1;

@@ -5,7 +5,7 @@ use crate::typing::Typing;
 use node_check::{Checker, Scratch};
 use schema::Schema;
 use std::alloc::{AllocError, Global};
-use triple::{Arcs, Store};
+use triple::{CountedArcs, Store};
 use values::ValueTest;
 
 #[derive(Drop)]
@@ -21,7 +21,7 @@ pub(crate) fn sorted_arcs<S: Store>(
     store: &S,
     node: u16,
 ) -> Result<Vec<(u8, u16)>, AllocError> {
-    let mut arcs = Arcs::of(store, node).collect::<Vec<_>>(heap)?;
+    let mut arcs = CountedArcs::of(store, node).collect::<Vec<_>>(heap)?;
     arcs.sort()?;
     Ok(arcs)
 }

@@ -9,3 +9,5 @@ mod row_tests;
 mod runs;
 #[cfg(test)]
 mod tests;
+#[cfg(test)]
+mod walk_tests;

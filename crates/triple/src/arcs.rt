@@ -6,13 +6,12 @@ ghost use Rattle.triple.specs.Walks.{arcs_left};
 
 use crate::store::Store;
 
-// What is left of the arcs of a node, from a place on. It ends by the fan: over rows the arc past the last is a scan of them all.
+// What is left of the arcs of a node, from a place on.
 #[derive(Clone, Copy)]
 pub struct Arcs<'a, S> {
     pub(crate) store: &'a S,
     pub(crate) node: u16,
     pub(crate) place: u8,
-    pub(crate) fan: u8,
 }
 
 impl<'a, S: Store> Arcs<'a, S> {
@@ -26,7 +25,6 @@ impl<'a, S: Store> Arcs<'a, S> {
             store,
             node,
             place: 0,
-            fan: store.fan(node),
         }
     }
 }
@@ -42,9 +40,6 @@ impl<'a, S: Store> Iterator for Arcs<'a, S> {
 
     fn next(&mut self) -> Option<(u8, u16)> {
         self.store.lawful();
-        if self.place >= self.fan {
-            return None;
-        }
         let arc = self.store.arc(self.node, self.place)?;
         self.place += 1;
         Some(arc)

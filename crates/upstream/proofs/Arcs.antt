@@ -10,8 +10,6 @@ use Rattle.std.specs.List.{slice_get}
 use Rattle.shapes.specs.Lists.{Member}
 use Rattle.shapes.proofs.Lists.{nth_member}
 use Rattle.triple.specs.Arcs.{Arc}
-use Rattle.triple.specs.Walks.{arcs_left}
-use Rattle.triple.specs.declared.arcs.Arcs.{Arcs}
 use Rattle.upstream.specs.Arcs.{Leads, sources_of, Leading}
 use Rattle.upstream.specs.Nodes.{Has}
 use Rattle.upstream.proofs.Nodes.{none_has}
@@ -44,20 +42,20 @@ leading_more b node object s h change n o = ⊎_elim
 pub arc_leads : (arcs : ℕ → List (ℕ × ℕ)) (n i : ℕ) (a : ℕ × ℕ) → Some a ≡ slice_get (arcs n) i → Leads arcs n a.1
 arc_leads arcs n i a e = (a.0, nth_member (arcs n) i a (sym e))
 
--- a walk gives the next arc, until it has given all
-module _ {S : Type 0} (arcs : S → ℕ → List Arc) (zs : List Arc) (begun s t u : Arcs S) (xs : List Arc) (left : arcs_left arcs begun ≡ zs) (same : s ≡ begun) (led : Yields (YieldsFirst (arcs_left arcs)) s xs t) where
+-- a walk gives the next arc, until it has given all, where `left` is what is left of it
+module _ {W : Type 0} (left : W → List Arc) (zs : List Arc) (begun s t u : W) (xs : List Arc) (all : left begun ≡ zs) (same : s ≡ begun) (led : Yields (YieldsFirst left) s xs t) where
   abbrev Walk : Type 0
-  Walk = YieldsList (YieldsFirst (arcs_left arcs)) (λ x. x) s zs
+  Walk = YieldsList (YieldsFirst left) (λ x. x) s zs
 
-  pub next_arc : (x : Arc) → YieldsFirst (arcs_left arcs) t (Some x) u → Some x ≡ slice_get zs (length xs)
+  pub next_arc : (x : Arc) → YieldsFirst left t (Some x) u → Some x ≡ slice_get zs (length xs)
   next_arc x step =
-      let walk : Walk = YieldsList-from_first (λ x. x) (arcs_left arcs) zs (ap (arcs_left arcs) same ∙ left) in
+      let walk : Walk = YieldsList-from_first (λ x. x) left zs (ap left same ∙ all) in
       let w = YieldsList-turn walk xs t led (Some x) u x refl step in
       sym (slice_get-get_or zs (length xs) x w.0 ∙ ap Some (sym w.1))
 
-  pub all_arcs : YieldsFirst (arcs_left arcs) t None u → xs ≡ zs
+  pub all_arcs : YieldsFirst left t None u → xs ≡ zs
   all_arcs step =
-      let walk : Walk = YieldsList-from_first (λ x. x) (arcs_left arcs) zs (ap (arcs_left arcs) same ∙ left) in
+      let walk : Walk = YieldsList-from_first (λ x. x) left zs (ap left same ∙ all) in
       sym (map-id xs) ∙ (YieldsList-end walk xs t led None u refl step).0
 
 -- a node past the end has no arcs

@@ -3,7 +3,7 @@ ghost use Rattle.std.specs.Prelude.{◌≡◌, ℕ, ◌<◌, ◌↔◌};
 ghost use Rattle.upstream.specs.Arcs.{Leads, sources_of, Leading, Added};
 
 use crate::node_set::NodeSet;
-use triple::{Arcs, Store};
+use triple::{CountedArcs, Store};
 
 // For each object the nodes that have an arc to it.
 #[derive(Drop)]
@@ -25,7 +25,7 @@ impl Backward {
         ensures { Added (S.Store.arcs store.now) node self.old self.new }
     {
         store.lawful();
-        for (_, object) in Arcs::of(store, node) {
+        for (_, object) in CountedArcs::of(store, node) {
             self.sources[usize::from(object)].insert(node);
         }
     }

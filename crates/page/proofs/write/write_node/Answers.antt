@@ -1,7 +1,7 @@
 use Rattle.std.proofs.Common.{◌≡◌, ◌+◌, ◌++◌, length, take, drop, set, sym, ap, ◌∙◌, inl, arith}
 use Rattle.std.specs.Iterator.Adapters.{enumerate_source, enumerate_count}
 use Rattle.triple.specs.Stores.{total}
-use Rattle.triple.specs.Walks.{arcs_left}
+use Rattle.triple.specs.Walks.{counted_left}
 use Rattle.page.specs.Laying.{laid}
 use Rattle.page.proofs.Laid.{nth_object, laid_more, left_some}
 use Rattle.page.proofs.write.write_node.Goals as goal
@@ -20,7 +20,7 @@ loop-place-preserved g c =
     let i = enumerate_count c.loop-place.place-iterator in
     let step = c.in-Some.ensures.steps in
     let here = left_some arcs i (c.in-Some.property, c.in-Some.object) _ (sym c.loop-place.invariant.left ∙ step.0) in
-    let counted : enumerate_count c.next.new.self + length (arcs_left g.S.Store.arcs (enumerate_source c.next.new.self)) ≡ length arcs = omega (arith, ap length step.0, step.2, c.loop-place.invariant.counted) in
+    let counted : enumerate_count c.next.new.self + length (counted_left g.S.Store.arcs (enumerate_source c.next.new.self)) ≡ length arcs = omega (arith, ap length step.0, step.2, c.loop-place.invariant.counted) in
     record {
       callable = ((tt, tt, inl (omega (arith, counted, c.lawful.ensures.few c.args.node))), tt);
       left = sym here.1 ∙ ap (λ k. drop k arcs) (sym step.2);

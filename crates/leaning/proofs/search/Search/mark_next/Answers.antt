@@ -2,6 +2,7 @@ use Rattle.std.proofs.Common.{◌≡◌, ◌<◌, true, sym, ap, ◌∙◌, subs
 use Rattle.shapes.specs.Leaning.{Leans, Admits}
 use Rattle.shapes.specs.Lists.{Member}
 use Rattle.shapes.proofs.Lists.{nth_member, member_pushed}
+use Rattle.triple.specs.Walks.{counted_left}
 use Rattle.triple.proofs.Inside.{inside_nth}
 use Rattle.shapes.proofs.Leaning.{decides_admits}
 use Rattle.shapes.proofs.Satisfaction.{mentions_from_admits}
@@ -20,7 +21,7 @@ pub mark_labels-requires : goal.mark_labels-requires
 mark_labels-requires g c =
     let arcs = g.S.Store.arcs c.args.store.now c.args.pair.node in
     let object = c.in-Some.object in
-    let arc = next_arc g.S.Store.arcs arcs _ _ _ c.next.new.self _ c.of-property-items.ensures.left c.into_iter-property-iterator.ensures.into_iter_gives c.loop-property.yielded_by (c.in-Some.property, object) c.in-Some.ensures.steps in
+    let arc = next_arc (counted_left g.S.Store.arcs) arcs _ _ _ c.next.new.self _ c.of-property-items.ensures.left c.into_iter-property-iterator.ensures.into_iter_gives c.loop-property.yielded_by (c.in-Some.property, object) c.in-Some.ensures.steps in
     let within : object < g.S.Store.nodes c.args.store.now = inside_nth _ arcs _ _ object (c.lawful-2.ensures.within c.args.pair.node) arc in
     let same = ap (λ p. p.nodes) c.loop-property.invariant.grown.frame.pairs in
     omega (arith, same, c.requires.pairs.0)
@@ -36,7 +37,7 @@ loop-property-preserved g c =
     let step = c.mark_labels.ensures.change in
     let p' = c.in-Some.property in
     let o' = c.in-Some.object in
-    let arc = next_arc g.S.Store.arcs (arcs n) _ _ _ c.next.new.self _ c.of-property-items.ensures.left c.into_iter-property-iterator.ensures.into_iter_gives c.loop-property.yielded_by (p', o') c.in-Some.ensures.steps in
+    let arc = next_arc (counted_left g.S.Store.arcs) (arcs n) _ _ _ c.next.new.self _ c.of-property-items.ensures.left c.into_iter-property-iterator.ensures.into_iter_gives c.loop-property.yielded_by (p', o') c.in-Some.ensures.steps in
     let labels = c.admitted.ensures in
     let same = ap (λ p. p.labels) inv.grown.frame.pairs in
     record {
@@ -57,5 +58,5 @@ loop-property-preserved g c =
 pub returns : goal.returns
 returns g c =
     let inv = c.loop-property.invariant in
-    let all = all_arcs g.S.Store.arcs (g.S.Store.arcs c.args.store.now c.args.pair.node) _ _ _ c.next.new.self _ c.of-property-items.ensures.left c.into_iter-property-iterator.ensures.into_iter_gives c.loop-property.yielded_by c.in-None.ensures.steps in
+    let all = all_arcs (counted_left g.S.Store.arcs) (g.S.Store.arcs c.args.store.now c.args.pair.node) _ _ _ c.next.new.self _ c.of-property-items.ensures.left c.into_iter-property-iterator.ensures.into_iter_gives c.loop-property.yielded_by c.in-None.ensures.steps in
     record { change = inv.grown; made = λ h l. inv.made l.0 h.node h.label (subst (Member (l.0, h.node)) (sym all) l.1) l.2 }

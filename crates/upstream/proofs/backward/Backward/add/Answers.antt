@@ -1,6 +1,7 @@
 use Rattle.std.proofs.Common.{◌≡◌, ◌<◌, refl, sym, ap, ◌∙◌, subst, inl, inr, ⊎_elim, arith}
 use Rattle.shapes.specs.Lists.{Member}
 use Rattle.shapes.proofs.Lists.{member_pushed}
+use Rattle.triple.specs.Walks.{counted_left}
 use Rattle.triple.proofs.Inside.{inside_nth}
 use Rattle.upstream.specs.Arcs.{Leads}
 use Rattle.upstream.proofs.Arcs.{leading_more, arc_leads, next_arc, all_arcs}
@@ -11,7 +12,7 @@ bounds-self-from g c =
     let law = c.lawful.ensures in
     let arcs = g.S.Store.arcs c.args.store.now c.args.node in
     let object = c.in-Some.object in
-    let arc = next_arc g.S.Store.arcs arcs _ _ _ c.next.new.self _ c.of-object-items.ensures.left c.into_iter-object-iterator.ensures.into_iter_gives c.loop-object.yielded_by (c.in-Some.field-0-0, object) c.in-Some.ensures.steps in
+    let arc = next_arc (counted_left g.S.Store.arcs) arcs _ _ _ c.next.new.self _ c.of-object-items.ensures.left c.into_iter-object-iterator.ensures.into_iter_gives c.loop-object.yielded_by (c.in-Some.field-0-0, object) c.in-Some.ensures.steps in
     let within : object < g.S.Store.nodes c.args.store.now = inside_nth _ arcs _ _ object (law.within c.args.node) arc in
     let small = law.small in
     omega (arith, c.from.ensures)
@@ -23,7 +24,7 @@ loop-object-preserved g c =
     let at = c.from.result in
     let inv = c.loop-object.invariant in
     let small = c.lawful.ensures.small in
-    let arc = next_arc g.S.Store.arcs (arcs node) _ _ _ c.next.new.self _ c.of-object-items.ensures.left c.into_iter-object-iterator.ensures.into_iter_gives c.loop-object.yielded_by (c.in-Some.field-0-0, c.in-Some.object) c.in-Some.ensures.steps in
+    let arc = next_arc (counted_left g.S.Store.arcs) (arcs node) _ _ _ c.next.new.self _ c.of-object-items.ensures.left c.into_iter-object-iterator.ensures.into_iter_gives c.loop-object.yielded_by (c.in-Some.field-0-0, c.in-Some.object) c.in-Some.ensures.steps in
     let within : c.in-Some.object < g.S.Store.nodes c.args.store.now = inside_nth _ (arcs node) _ _ c.in-Some.object (c.lawful.ensures.within node) arc in
     let more = leading_more c.loop-object.self node at c.insert.new.self (omega (arith, c.from.ensures)) c.insert.ensures.change in
     record {
@@ -35,7 +36,7 @@ loop-object-preserved g c =
 pub returns : goal.returns
 returns g c =
     let inv = c.loop-object.invariant in
-    let all = all_arcs g.S.Store.arcs (g.S.Store.arcs c.args.store.now c.args.node) _ _ _ c.next.new.self _ c.of-object-items.ensures.left c.into_iter-object-iterator.ensures.into_iter_gives c.loop-object.yielded_by c.in-None.ensures.steps in
+    let all = all_arcs (counted_left g.S.Store.arcs) (g.S.Store.arcs c.args.store.now c.args.node) _ _ _ c.next.new.self _ c.of-object-items.ensures.left c.into_iter-object-iterator.ensures.into_iter_gives c.loop-object.yielded_by c.in-None.ensures.steps in
     record {
       kept = inv.kept;
       more = inv.more;
