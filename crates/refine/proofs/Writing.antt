@@ -1,5 +1,5 @@
 -- A value written where a test holds: one more place, and what follows where the test is a function.
-use Rattle.std.proofs.Common.{◌≡◌, ℕ, ◌+◌, ◌-◌, ◌<◌, ◌≤◌, ◌&&◌, Bool, true, false, cond, ltb, ◌⊎◌, List, ◌++◌, length, get_or, set, take, drop, Decides, inl, inr, ap, ◌∙◌, sym, refl, subst, arith, below_more, get_or-set_same, get_or-set_other}
+use Rattle.std.proofs.Common.{◌≡◌, ℕ, ◌+◌, ◌-◌, ◌<◌, ◌≤◌, ◌&&◌, Bool, true, false, cond, ltb, ◌⊎◌, List, ◌++◌, length, get_or, set, take, drop, Decides, ⊎_elim, inl, inr, ap, ◌∙◌, sym, refl, subst, arith, below_more, get_or-set_same, get_or-set_other}
 use borrow.Rule.Slice.PartMut.{put_mid, post_of}
 use Rattle.std.proofs.lemmas.Bool.{cases_lt, true≢false, lt-ltb, le-ltb}
 use Rattle.std.proofs.lemmas.List.{get_or-take, get_or-drop, get_or_default, get_or-append_right, length-take-le}
@@ -65,15 +65,13 @@ prefix_written test value x y n any is long e w f k = at (cases_lt k n)
         ∙ ap (λ v. cond (is k) value v) (get_or-take n x k value h ∙ get_or_default x k value 0 (omega arith)))
     at (inr past) = rw (le-ltb k n past) (put_outside x y 0 n (omega arith) e 0 k (inr (omega arith)))
 
--- and the marks, where the test of n is whether it is marked or L holds
-pub marked : (test : ℕ → Bool → Bool → Type 0) (L : ℕ → Type 0) (x y : List Bool) (n : ℕ) (any : Bool) → n ≤ length x → length y ≡ n
-    → WrittenWhere test true (take n x) any y → ((k : ℕ) (b : Bool) → k < n → test k (get_or (take n x) k true) b → Decides b ((get_or (take n x) k true ≡ true) ⊎ L k)) → Marked L n x (put_mid 0 n x y)
-marked test L x y n any long e w f = record { before = before; past = λ k h. put_outside x y 0 n (omega arith) e false k (inr (omega arith)) }
+-- and the marks, where a place is marked then exactly if it was or L holds
+marks_written : (test : ℕ → Bool → Bool → Type 0) (L : ℕ → Type 0) (x y : List Bool) (n : ℕ) (any : Bool) → n ≤ length x → length y ≡ n
+    → WrittenWhere test true (take n x) any y
+    → ((k : ℕ) (b : Bool) → k < n → test k (get_or (take n x) k true) b → Decides (cond b true (get_or (take n x) k true)) ((get_or (take n x) k true ≡ true) ⊎ L k))
+    → Marked L n x (put_mid 0 n x y)
+marks_written test L x y n any long e w f = record { before = before; past = λ k h. put_outside x y 0 n (omega arith) e false k (inr (omega arith)) }
   where
-    held : (b : Bool) (P : Type 0) (v : Bool) → Decides b ((v ≡ true) ⊎ P) → Decides (cond b true v) ((v ≡ true) ⊎ P)
-    held true P v d = (λ _. d.0 refl, λ _. refl)
-    held false P v d = (λ e. inl e, λ m. absurd (true≢false (sym (d.1 m))))
-
     before : (k : ℕ) → k < n → Decides (get_or (put_mid 0 n x y) k false) ((get_or x k false ≡ true) ⊎ L k)
     before k h =
         let m = w.before k (omega (arith, length-take-le n x long)) in
@@ -81,4 +79,22 @@ marked test L x y n any long e w f = record { before = before; past = λ k h. pu
         put_inside x y 0 n (omega arith) e false k k (omega arith) h ∙ get_or_default y k false true (omega arith) ∙ m.2
         ∙ ap (λ v. cond m.0 true v) (get_or-take n x k true h ∙ get_or_default x k true false (omega arith)) in
         let same : get_or (take n x) k true ≡ get_or x k false = get_or-take n x k true h ∙ get_or_default x k true false (omega arith) in
-        rw at (held m.0 (L k) (get_or x k false) (subst (λ v. Decides m.0 ((v ≡ true) ⊎ L k)) same (f k m.0 h m.1)))
+        rw at (subst (λ v. Decides (cond m.0 true v) ((v ≡ true) ⊎ L k)) same (f k m.0 h m.1))
+
+-- where the test of n is whether L holds
+pub marked : (test : ℕ → Bool → Bool → Type 0) (L : ℕ → Type 0) (x y : List Bool) (n : ℕ) (any : Bool) → n ≤ length x → length y ≡ n
+    → WrittenWhere test true (take n x) any y → ((k : ℕ) (b : Bool) → k < n → test k (get_or (take n x) k true) b → Decides b (L k)) → Marked L n x (put_mid 0 n x y)
+marked test L x y n any long e w f = marks_written test L x y n any long e w (λ k b h t. held b (L k) (get_or (take n x) k true) (f k b h t))
+  where
+    held : (b : Bool) (P : Type 0) (v : Bool) → Decides b P → Decides (cond b true v) ((v ≡ true) ⊎ P)
+    held true P v d = (λ _. inr (d.0 refl), λ _. refl)
+    held false P v d = (λ e. inl e, λ m. ⊎_elim (λ e. e) (λ p. absurd (true≢false (sym (d.1 p)))) m)
+
+-- where the test of n is whether it is marked or L holds
+pub marked_or : (test : ℕ → Bool → Bool → Type 0) (L : ℕ → Type 0) (x y : List Bool) (n : ℕ) (any : Bool) → n ≤ length x → length y ≡ n
+    → WrittenWhere test true (take n x) any y → ((k : ℕ) (b : Bool) → k < n → test k (get_or (take n x) k true) b → Decides b ((get_or (take n x) k true ≡ true) ⊎ L k)) → Marked L n x (put_mid 0 n x y)
+marked_or test L x y n any long e w f = marks_written test L x y n any long e w (λ k b h t. held b (L k) (get_or (take n x) k true) (f k b h t))
+  where
+    held : (b : Bool) (P : Type 0) (v : Bool) → Decides b ((v ≡ true) ⊎ P) → Decides (cond b true v) ((v ≡ true) ⊎ P)
+    held true P v d = (λ _. d.0 refl, λ _. refl)
+    held false P v d = (λ e. inl e, λ m. absurd (true≢false (sym (d.1 m))))

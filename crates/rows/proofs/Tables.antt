@@ -1,7 +1,7 @@
 -- Tables of rows of which one is filled or freed, and the rows that a store uses. Assumes nothing.
-use Rattle.std.proofs.Common.{◌≡◌, ℕ, zero, suc, ◌<◌, ◌≤◌, min, true, false, cond, eqb, ◌+◌, ◌%◌, ◌^◌, List, [], ◌∷◌, ◌++◌, length, get_or, take, drop, set, replicate, is_some, Some, None, Option, sym, refl, ap, ◌∙◌, ⊎_elim, arith, Contains, MatchOption}
+use Rattle.std.proofs.Common.{◌≡◌, ℕ, zero, suc, ◌<◌, ◌≤◌, min, Bool, true, false, cond, ◌&&◌, ◌||◌, eqb, ◌+◌, ◌%◌, ◌^◌, List, [], ◌∷◌, ◌++◌, length, get_or, take, drop, set, replicate, is_some, Some, None, Option, sym, refl, ap, ◌∙◌, ⊎_elim, arith, Contains, MatchOption}
 use lib.Seq.{take-set-lt}
-use Rattle.std.specs.List.{fold, cons_option}
+use Rattle.std.specs.List.{fold, cons_option, list_any}
 use Rattle.std.proofs.lemmas.List.{take_all, drop_all, take_at, drop_at, append-nil, set_split, set-get_or, length-set, length-take, length-drop, length-append, length-replicate, nil_from_length}
 use Rattle.std.proofs.lemmas.List.Elements.{filter_map-append}
 use Rattle.std.proofs.lemmas.List.Sums.{sum_by-cons, sum_by-set, count_by-le-length}
@@ -85,6 +85,17 @@ none_has (Some t ∷ rows) s p o none =
   where
     held : (t : Triple) → t.subject ≡ s → ◌≡◌ {A = Arc} (t.property, t.object) (p, o) → Some t ≡ full s p o
     held t e q = ap (λ x. full x t.property t.object) e ∙ ap (λ (a : Arc). full s a.0 a.1) q
+
+-- what a test of each row says, where it is of a triple
+pub any_has : (alike : Option Triple → Bool) (s p o : ℕ) → alike None ≡ false → ((t : Triple) → alike (Some t) ≡ (eqb t.subject s && same (t.property, t.object) p o))
+    → (rows : List (Option Triple)) → list_any alike rows ≡ has p o (arcs_in s rows)
+any_has alike s p o none some [] = refl
+any_has alike s p o none some (None ∷ rows) = rw none (any_has alike s p o none some rows)
+any_has alike s p o none some (Some t ∷ rows) =
+    ⊎_elim
+    (λ (e : eqb t.subject s ≡ true). rw (some t, e) (ap (λ b. same (t.property, t.object) p o || b) (any_has alike s p o none some rows)))
+    (λ (e : eqb t.subject s ≡ false). rw (some t, e) (any_has alike s p o none some rows))
+    (cases_Bool (eqb t.subject s))
 
 -- what a search for a row says of its triple
 pub found_present : (rows : List (Option Triple)) (s p o : ℕ) (found : Option ℕ)
