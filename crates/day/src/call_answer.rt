@@ -1,7 +1,7 @@
 // What a call on the validator answers, and how it is printed.
 use refusal::Layer;
 use replay::Call;
-use script::Joined;
+use script::Items;
 use std::fmt;
 
 #[derive(Drop)]
@@ -61,7 +61,7 @@ impl fmt::Display for CallAnswer {
             CallAnswer::Held(None) => write!(f, "not held"),
             CallAnswer::Swept(count, pairs) if pairs.is_empty() => write!(f, "{count} pairs"),
             CallAnswer::Swept(count, pairs) => {
-                let pairs = Joined {
+                let pairs = Items {
                     items: pairs.as_slice(),
                     none: "",
                 };

@@ -1,5 +1,5 @@
 // A graph page in words.
-use script::Joined;
+use script::Items;
 use std::alloc::{AllocError, Global};
 use std::fmt;
 
@@ -49,7 +49,7 @@ impl fmt::Display for Listing {
         let mut left = self.arcs.as_slice();
         for (node, fan) in self.fans.iter().enumerate() {
             let (items, rest) = left.split_at(usize::from(*fan).min(left.len()));
-            let arcs = Joined {
+            let arcs = Items {
                 items,
                 none: "none",
             };

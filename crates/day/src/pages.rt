@@ -6,7 +6,7 @@ use page::{Entry, PageFault, load, save};
 use refusal::Fault;
 use rows::RowStore;
 use schema::Schema;
-use script::{Joined, Refused};
+use script::{Items, Refused};
 use std::alloc::{AllocError, Global};
 use std::{fmt, fs};
 use triple::Store;
@@ -31,7 +31,7 @@ impl fmt::Display for PageAnswer {
         match self {
             PageAnswer::Bytes(Ok(bytes)) => {
                 let length = bytes.len();
-                let bytes = Joined {
+                let bytes = Items {
                     items: bytes.as_slice(),
                     none: "none",
                 };

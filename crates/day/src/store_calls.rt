@@ -5,7 +5,7 @@ use crate::day::run_day;
 use crate::failure::{FileFailure, Trouble};
 use crate::pages::answer_page;
 use script::{
-    CarryOut, Command, Description, OpenHouse, OverStore, Session, carry_out_all, list, run_house,
+    CarryOut, Command, Description, OpenHouse, RunOver, Session, carry_out_all, list, run_described,
 };
 use triple::Store;
 use values::{TermTable, ValueTest};
@@ -59,7 +59,7 @@ struct Calls<'r, 'l, 't, 'a> {
     lines: &'l [Line<'t, 'a>],
 }
 
-impl OverStore for Calls<'_, '_, '_, '_> {
+impl RunOver for Calls<'_, '_, '_, '_> {
     fn run_over<S: Store + Drop>(&self, store: S, house: &mut Description) -> anyhow::Result<()> {
         let mut store = store;
         let values = TermTable::new(house.terms.as_slice(), house.tests.as_slice());
@@ -76,5 +76,5 @@ impl OverStore for Calls<'_, '_, '_, '_> {
 pub fn run_lines(rt: &HostRuntime, lines: &[Line]) -> anyhow::Result<()> {
     let mut house = Description::new(rt.alloc());
     let lines = carry_out_all(rt, &mut house, lines)?;
-    run_house(rt, &Calls { rt, lines }, &mut house)
+    run_described(rt, &Calls { rt, lines }, &mut house)
 }

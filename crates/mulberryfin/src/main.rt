@@ -2,7 +2,7 @@
 #![tactic(auto)]
 
 use script::{
-    Description, OpenHouse, OverStore, Session, carry_out_text, list, read_script, run_house,
+    Description, OpenHouse, RunOver, Session, carry_out_text, list, read_script, run_described,
 };
 use std::convert::Infallible;
 use triple::Store;
@@ -16,7 +16,7 @@ struct Calls<'r, 'a> {
     first: Option<usize>,
 }
 
-impl OverStore for Calls<'_, '_> {
+impl RunOver for Calls<'_, '_> {
     fn run_over<S: Store + Drop>(&self, store: S, house: &mut Description) -> anyhow::Result<()> {
         let mut store = store;
         let values = TermTable::new(house.terms.as_slice(), house.tests.as_slice());
@@ -50,7 +50,7 @@ fn read_and_run(rt: &HostRuntime) -> anyhow::Result<()> {
     let text = text.as_str();
     let mut house = Description::new(rt.alloc());
     let first = carry_out_text::<_, Infallible, _>(rt, &mut house, text, 0)?;
-    run_house(rt, &Calls { rt, text, first }, &mut house)
+    run_described(rt, &Calls { rt, text, first }, &mut house)
 }
 
 fn main(rt: HostRuntime) -> anyhow::Result<()> {

@@ -1,5 +1,5 @@
 // What a command answers, and how it is printed.
-use crate::joined::Joined;
+use crate::items::Items;
 use draft::SchemaFault;
 use refusal::Fault;
 use std::fmt;
@@ -70,6 +70,6 @@ impl fmt::Display for Answer {
     }
 }
 
-fn joined<'a, T>(items: &'a [T], none: &'static str) -> Joined<'a, T> {
-    Joined { items, none }
+fn joined<'a, T>(items: &'a [T], none: &'static str) -> Items<'a, T> {
+    Items { items, none }
 }

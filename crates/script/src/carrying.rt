@@ -1,11 +1,10 @@
 // Lines of a script, carried out one after the other.
-use crate::command::{Command, OwnCommand, StoreKind};
+use crate::command::{Command, OwnCommand};
+use crate::described::{RunOver, run_described};
 use crate::description::Description;
 use crate::line::{Line, read_line};
 use crate::telling::tell;
 use crate::trouble::Trouble;
-use chain::ChainStore;
-use rows::RowStore;
 use std::fmt;
 use triple::Store;
 
@@ -72,22 +71,40 @@ pub fn carry_out_text<'a, R: Print, O: OwnCommand<'a>, C: CarryOut<O>>(
 }
 
 // What a program does with a house once it is described.
-pub trait OverStore {
+pub trait OverStore<O> {
     // Carries out the lines behind the description over the house's store, which is still empty.
-    fn run_over<S: Store + Drop>(&self, store: S, house: &mut Description) -> anyhow::Result<()>;
+    fn run_over<S: Store + Drop>(
+        &self,
+        store: S,
+        house: &mut Description,
+        lines: &[Line<O>],
+    ) -> anyhow::Result<()>;
 }
 
-// Makes the store of a house that is described, and does over it what the program does.
-pub fn run_house<R: AllocGlobal, P: OverStore>(
+// A program with the lines behind the description.
+#[derive(Clone, Copy)]
+struct OverLines<'p, 'l, 'a, P, O> {
+    program: &'p P,
+    lines: &'l [Line<'a, O>],
+}
+
+impl<O: Copy, P: OverStore<O>> RunOver for OverLines<'_, '_, '_, P, O> {
+    fn run_over<S: Store + Drop>(&self, store: S, house: &mut Description) -> anyhow::Result<()> {
+        self.program.run_over(store, house, self.lines)
+    }
+}
+
+// Carries out the lines of one house, its description first.
+pub fn run_house<R: Print + AllocGlobal, O: Copy, P: OverStore<O>>(
     rt: &R,
     program: &P,
-    house: &mut Description,
+    lines: &[Line<O>],
 ) -> anyhow::Result<()> {
-    match house.store.unwrap_or(StoreKind::Chain(0)) {
-        StoreKind::Chain(nodes) => program.run_over(ChainStore::new(nodes), house),
-        StoreKind::Rows(nodes, count) => {
-            let mut rows = vec![in rt.alloc(); None; usize::from(count)]?;
-            program.run_over(RowStore::new(rows.as_mut_slice(), nodes), house)
-        }
-    }
+    let mut house = Description::new(rt.alloc());
+    let rest = carry_out_all(rt, &mut house, lines)?;
+    let program = OverLines {
+        program,
+        lines: rest,
+    };
+    run_described(rt, &program, &mut house)
 }
