@@ -53,23 +53,23 @@ impl fmt::Display for Answer {
             Answer::ShapeRow(row) => write!(f, "shape row {row}"),
             Answer::Label(label) => write!(f, "label {label}"),
             Answer::Schema(Ok(labels)) => write!(f, "accepted, {labels} labels"),
-            Answer::Strata(Ok(strata)) => joined(strata.as_slice(), "no labels").fmt(f),
+            Answer::Strata(Ok(strata)) => items(strata.as_slice(), "no labels").fmt(f),
             Answer::Schema(Err(fault)) | Answer::Strata(Err(fault)) => Refused(*fault).fmt(f),
             Answer::Edit(Ok(())) => write!(f, "accepted"),
             Answer::Edit(Err(fault)) => Refused(*fault).fmt(f),
             Answer::Fan(fan) => write!(f, "{fan}"),
             Answer::Arc(Some((property, object))) => write!(f, "({property}, {object})"),
             Answer::Arc(None) => write!(f, "no arc"),
-            Answer::Arcs(arcs) => joined(arcs.as_slice(), "none").fmt(f),
+            Answer::Arcs(arcs) => items(arcs.as_slice(), "none").fmt(f),
             Answer::Total(total, capacity) => write!(f, "{total} of {capacity}"),
             Answer::Truth(true) => write!(f, "yes"),
             Answer::Truth(false) => write!(f, "no"),
             Answer::Typed(count) => write!(f, "{count} pairs"),
-            Answer::Pairs(pairs) => joined(pairs.as_slice(), "none").fmt(f),
+            Answer::Pairs(pairs) => items(pairs.as_slice(), "none").fmt(f),
         }
     }
 }
 
-fn joined<'a, T>(items: &'a [T], none: &'static str) -> Items<'a, T> {
+fn items<'a, T>(items: &'a [T], none: &'static str) -> Items<'a, T> {
     Items { items, none }
 }

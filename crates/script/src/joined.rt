@@ -1,4 +1,4 @@
-// Items of a list, parted by blanks.
+// Items of a list by their `Debug` texts, parted by blanks.
 use std::fmt;
 
 // With what stands where there is no item.
